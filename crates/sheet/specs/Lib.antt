@@ -1,0 +1,4 @@
+pub mod Limits
+pub mod Content
+pub mod Answers
+pub mod Calls

@@ -116,8 +116,8 @@ pub not-entered-unmarked : (xs : List Action) (marked : ℕ → ℕ → Bool) (a
 not-entered-unmarked xs marked a b p past =
     ⊎-elim
     (λ (m : marked a b ≡ true).
-      let parts = pair-parts xs a b (p a b m) .1 in
-      absurd (⊎-elim (λ (h : length xs ≤ a). omega (arith, variable-entered xs a (parts .0))) (λ (h : length xs ≤ b). omega (arith, variable-entered xs b (parts .1))) past))
+    let parts = pair-parts xs a b (p a b m) .1 in
+    absurd (⊎-elim (λ (h : length xs ≤ a). omega (arith, variable-entered xs a (parts .0))) (λ (h : length xs ≤ b). omega (arith, variable-entered xs b (parts .1))) past))
     (λ (m : marked a b ≡ false). m)
     (cases-bool (marked a b))
 

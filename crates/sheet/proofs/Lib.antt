@@ -1,3 +1,4 @@
 pub mod Marks
 pub mod Keeping
 pub mod Questions
+pub mod Laws

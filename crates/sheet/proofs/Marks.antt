@@ -41,3 +41,13 @@ table-set rows i j p q on hi hj = grind (arith, tells, getD-set-same, getD-set-o
 pub mark-set : (rows : List (List Bool)) (a b : ℕ) (on : Bool) → min a b < length rows → max a b < length (getD rows (min a b) []) → (x y : ℕ) → marked-in (set rows (min a b) (set (getD rows (min a b) []) (max a b) on)) x y ≡ cond (same-pair a b x y) on (marked-in rows x y)
 mark-set rows a b on hi hj x y =
     table-set rows (min a b) (max a b) (min x y) (max x y) on hi hj ∙ ap (λ (t : Bool). cond t on (marked-in rows x y)) (sym (pair-by-order a b x y))
+
+-- either order has the same mark
+pub marks-symmetric : (rows : List (List Bool)) (a b : ℕ) → marked-in rows a b ≡ marked-in rows b a
+marks-symmetric rows a b = λ i. getD (getD rows (min-comm a b i) []) (max-comm a b i) false
+  where
+    min-comm : (m n : ℕ) → min m n ≡ min n m
+    min-comm m n = omega arith
+
+    max-comm : (m n : ℕ) → max m n ≡ max n m
+    max-comm m n = omega arith

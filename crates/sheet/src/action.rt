@@ -76,7 +76,11 @@ fn spread_for(kind: Kind, number: u8) -> Option<Spread>
     ensures { λ r. ⌜ r ≡ spread-for kind number ⌝ }
 {
     let spread = Spread::from_number(number)?;
-    if kind.allows(spread) { Some(spread) } else { None }
+    if kind.allows(spread) {
+        Some(spread)
+    } else {
+        None
+    }
 }
 
 fn parts_allowed(parts: u8) -> bool

@@ -2,8 +2,7 @@
 ghost use mathlib.Core.Path.{_≡_};
 ghost use Rattle.std.specs.Vec.{made};
 ghost use Rattle.sheet.specs.Content.{on-draft, on-issued, blank};
-ghost use Rattle.sheet.specs.Answers.{said};
-ghost use Rattle.sheet.specs.Calls.{entering, excluding, lifting, recasting, suspending, resuming};
+ghost use Rattle.sheet.specs.Laws.{Laws, Sound};
 use crate::plain::Sheet;
 use std::alloc::AllocError;
 use std::alloc::Global;
@@ -23,9 +22,10 @@ pub struct Issued {
 }
 
 impl Draft {
-    // A blank draft. This is the only call that asks for memory.
+    // A blank draft. This is the only call that asks for memory. Every call on it and on what comes of it keeps the laws.
     pub fn new(heap: Global) -> Result<Draft, AllocError>
-        ensures { λ r. ⌜ made r (λ d. on-draft d ≡ blank) ⌝ }
+        ensures draft { λ r. ⌜ made r (λ d. on-draft d ≡ blank) ⌝ }
+        ensures laws { λ _. ⌜ Laws ⌝ }
     {
         Ok(Draft {
             sheet: Sheet::blank(heap)?,
@@ -41,7 +41,8 @@ impl Draft {
 
     // Issues the sheet; all that is on it stays.
     pub fn issue(self) -> Issued
-        ensures { λ r. ⌜ r .sheet ≡ self .sheet ⌝ }
+        ensures same { λ r. ⌜ r .sheet ≡ self .sheet ⌝ }
+        ensures sound { λ r. ⌜ Sound (on-issued r) ⌝ }
     {
         let Draft { sheet } = self;
         Issued { sheet }

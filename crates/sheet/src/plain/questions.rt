@@ -43,7 +43,11 @@ impl Sheet {
         if !((a != b) & variable) {
             return Err(Refusal::NotVariable);
         }
-        if changes { Ok(()) } else { Err(Refusal::PairUnchanged) }
+        if changes {
+            Ok(())
+        } else {
+            Err(Refusal::PairUnchanged)
+        }
     }
 
     // Whether an entered action is active.

@@ -16,7 +16,9 @@ use std::alloc::AllocError;
 use std::alloc::Global;
 
 const ACTIONS: usize = 32;
+
 const VARIABLE_ACTIONS: usize = 12;
+
 const PARTS: usize = 192;
 
 // How many of the actions are variable.

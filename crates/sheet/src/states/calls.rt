@@ -9,13 +9,7 @@ use crate::action::Refusal;
 
 impl Draft {
     // Enters an active action, and answers its number. Kind, spread and category go by their numbers and letters.
-    pub fn enter(
-        &mut self,
-        kind: u8,
-        letter: char,
-        spread: u8,
-        parts: u8,
-    ) -> Result<usize, Refusal>
+    pub fn enter(&mut self, kind: u8, letter: char, spread: u8, parts: u8) -> Result<usize, Refusal>
         ensures { λ r. ⌜ (said r, on-draft (now (self .exit))) ≡ entering (on-draft (now (self .entry))) kind letter spread parts ⌝ }
     {
         let action = Action::described(kind, letter, spread, parts)?;

@@ -13,5 +13,5 @@ returns-then-a-entered c =
     let s = c .args .self .now in
     let xs = vec-items (s .actions) in
     let past : (length xs ≤ c .args .a) ⊎ (length xs ≤ c .args .b) =
-        ⊎-elim (λ h. inl (omega (arith, h, c .len-entered .ensures, s .actions .ok .0))) (λ h. inr (omega (arith, h .1, c .len-entered .ensures, s .actions .ok .0))) (c .then-a-entered .either) in
+    ⊎-elim (λ h. inl (omega (arith, h, c .len-entered .ensures, s .actions .ok .0))) (λ h. inr (omega (arith, h .1, c .len-entered .ensures, s .actions .ok .0))) (c .then-a-entered .either) in
     sym (not-entered-unmarked xs (marked-in (s .marks)) (c .args .a) (c .args .b) (s .paired) past)

@@ -16,11 +16,11 @@ loop-action-again c =
     let within : i < length xs = omega arith in
     elim (c .if-is-variable .came) [
       | then-is-variable w ↦
-        let m = countBy-more-yes (λ a. is-variable (a .kind)) xs i no-action within (sym (c .is-variable .ensures) ∙ w .if-is-variable .taken) in
-        (w .count-is ∙ ap (λ n. n + 1) (c .loop-action .inv .0) ∙ sym m, omega (arith, w .count-is, c .loop-action .inv .1))
+          let m = countBy-more-yes (λ a. is-variable (a .kind)) xs i no-action within (sym (c .is-variable .ensures) ∙ w .if-is-variable .taken) in
+          (w .count-is ∙ ap (λ n. n + 1) (c .loop-action .inv .0) ∙ sym m, omega (arith, w .count-is, c .loop-action .inv .1))
       | else-is-variable w ↦
-        let m = countBy-more-no (λ a. is-variable (a .kind)) xs i no-action within (sym (c .is-variable .ensures) ∙ w .if-is-variable .left) in
-        (w .count-is ∙ c .loop-action .inv .0 ∙ sym m, omega (arith, w .count-is, c .loop-action .inv .1))
+          let m = countBy-more-no (λ a. is-variable (a .kind)) xs i no-action within (sym (c .is-variable .ensures) ∙ w .if-is-variable .left) in
+          (w .count-is ∙ c .loop-action .inv .0 ∙ sym m, omega (arith, w .count-is, c .loop-action .inv .1))
     ]
 
 pub returns : need.returns

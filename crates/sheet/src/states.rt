@@ -1,7 +1,7 @@
 // The two states of a sheet: a draft takes changes, an issued sheet takes none.
 ghost use mathlib.Core.Path.{_≡_};
 ghost use Rattle.std.specs.Vec.{made};
-ghost use Rattle.sheet.specs.Content.{on-draft, on-issued, blank};
+ghost use Rattle.sheet.specs.Content.{content, on-draft, blank};
 ghost use Rattle.sheet.specs.Laws.{Laws, Sound};
 use crate::plain::Sheet;
 use std::alloc::AllocError;
@@ -41,8 +41,7 @@ impl Draft {
 
     // Issues the sheet; all that is on it stays.
     pub fn issue(self) -> Issued
-        ensures same { λ r. ⌜ r .sheet ≡ self .sheet ⌝ }
-        ensures sound { λ r. ⌜ Sound (on-issued r) ⌝ }
+        ensures { λ r. ⌜ r .sheet ≡ self .sheet ⌝ }
     {
         let Draft { sheet } = self;
         Issued { sheet }
@@ -52,7 +51,8 @@ impl Draft {
 impl Issued {
     // What is on the issued sheet.
     pub fn sheet(&self) -> &Sheet
-        ensures { λ r. ⌜ now r ≡ now (self .entry) .sheet ⌝ }
+        ensures same { λ r. ⌜ now r ≡ now (self .entry) .sheet ⌝ }
+        ensures sound { λ r. ⌜ Sound (content (now r)) ⌝ }
     {
         &self.sheet
     }

@@ -1,9 +1,9 @@
 // Reading and writing the table of actions and the marks.
 ghost use mathlib.Core.Path.{_≡_};
-ghost use mathlib.Core.Bool.{true};
+ghost use mathlib.Core.Bool.{true, false};
 ghost use mathlib.Core.List.{[], _∷_, _++_};
 ghost use Prim.Native.Nat.{_<_, _≤_};
-ghost use lib.ListN.{length, set};
+ghost use lib.ListN.{length, set, replicate};
 ghost use Rattle.std.specs.Of.Vec.{vec-items, vec-len};
 ghost use Rattle.std.specs.Vec.{made};
 ghost use Rattle.sheet.specs.Limits.{variables, parts-in, in-limits, can-pair, well-formed};
@@ -55,6 +55,13 @@ fn put(row: &mut [bool; 32], at: usize, mark: bool)
     row[at] = mark;
 }
 
+// A table with no mark.
+fn no_marks() -> [[bool; 32]; 32]
+    ensures { λ r. ⌜ r ≡ replicate 32 (replicate 32 false) ⌝ }
+{
+    [[false; 32]; 32]
+}
+
 impl Sheet {
     // A blank sheet, with memory for all the actions that it may hold.
     pub(crate) fn blank(heap: Global) -> Result<Sheet, AllocError>
@@ -63,7 +70,7 @@ impl Sheet {
         let actions = Vec::with_capacity(heap, ACTIONS)?;
         Ok(Sheet {
             actions,
-            marks: [[false; 32]; 32],
+            marks: no_marks(),
         })
     }
 

@@ -60,6 +60,21 @@ allows Seismic s = not (eqb (spread-number s) 2)
 abbrev pub category-of : ℕ → Option Category
 category-of = coded (codes "ABCDEFGHSMWT") (A ∷ B ∷ C ∷ D ∷ E ∷ F ∷ G ∷ H ∷ Snow ∷ HighSnow ∷ Wind ∷ Temperature ∷ [])
 
+-- the place of a category in that list, from 0
+abbrev pub category-place : Category → ℕ
+category-place A = 0
+category-place B = 1
+category-place C = 2
+category-place D = 3
+category-place E = 4
+category-place F = 5
+category-place G = 6
+category-place H = 7
+category-place Snow = 8
+category-place HighSnow = 9
+category-place Wind = 10
+category-place Temperature = 11
+
 -- the kind of action that must act in a situation, if any
 abbrev pub event-kind : Situation → Option Kind
 event-kind In-persistent = None

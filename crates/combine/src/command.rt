@@ -1,4 +1,6 @@
 // A line of a load sheet's text as a call.
+use crate::rules::Rules;
+use crate::rules::parse_rules;
 use crate::words::kind_number;
 use crate::words::spread_number;
 use std::alloc::AllocError;
@@ -39,67 +41,46 @@ pub enum Command<'a> {
     Change(Edit<'a>),
     Issue,
     Reopen,
+    Show(Rules),
 }
 
-// Why a line is no call.
+// Why a line is not played: a word, if one is at fault, and what is wrong with it.
 #[derive(Clone, Copy)]
-pub enum Fault<'a> {
-    NoSuchCall(&'a str),
-    Words(&'static str),
-    NameIsANumber(&'a str),
-    NameTaken(&'a str),
-    NoSuchName(&'a str),
-    NotAKind(&'a str),
-    NotALetter(&'a str),
-    NotASpread(&'a str),
-    NotParts(&'a str),
-    SheetIssued,
-    AlreadyIssued,
-    AlreadyADraft,
-    Memory,
+pub struct Fault<'a> {
+    word: &'a str,
+    problem: &'static str,
 }
 
 pub impl<'a> From<AllocError> for Fault<'a> as FaultFromAlloc {
     fn from(_e: AllocError) -> Fault<'a> {
-        Fault::Memory
+        fault_of("there is no memory left")
     }
 }
 
 pub impl<'a, T: Drop> From<Refused<T>> for Fault<'a> as FaultFromRefused {
     fn from(_e: Refused<T>) -> Fault<'a> {
-        Fault::Memory
+        fault_of("there is no memory left")
     }
 }
 
 pub impl fmt::Display for Fault<'_> as FaultDisplay {
     fn fmt<W: fmt::Write>(&self, f: &mut fmt::Formatter<W>) -> fmt::Result {
-        match *self {
-            Fault::NoSuchCall(word) => write!(
-                f,
-                "'{word}' is no call (enter, exclude, lift, recast, suspend, resume, issue, reopen)"
-            ),
-            Fault::Words(usage) => write!(f, "write: {usage}"),
-            Fault::NameIsANumber(word) => write!(f, "'{word}' is a number and cannot be a name"),
-            Fault::NameTaken(word) => write!(f, "an action is named '{word}' already"),
-            Fault::NoSuchName(word) => write!(f, "no action is named '{word}'"),
-            Fault::NotAKind(word) => write!(
-                f,
-                "'{word}' is no kind (permanent, prestress, variable, accidental, seismic, or a number)"
-            ),
-            Fault::NotALetter(word) => write!(f, "'{word}' is no category letter and not '-'"),
-            Fault::NotASpread(word) => {
-                write!(
-                    f,
-                    "'{word}' is no spread (fixed, free, alternative, or a number)"
-                )
-            }
-            Fault::NotParts(word) => write!(f, "'{word}' is no number of parts"),
-            Fault::SheetIssued => write!(f, "the sheet is issued; reopen it first"),
-            Fault::AlreadyIssued => write!(f, "the sheet is issued already"),
-            Fault::AlreadyADraft => write!(f, "the sheet is a draft already"),
-            Fault::Memory => write!(f, "there is no memory left"),
+        let word = self.word;
+        let problem = self.problem;
+        if word.is_empty() {
+            write!(f, "{problem}")
+        } else {
+            write!(f, "'{word}' {problem}")
         }
     }
+}
+
+pub(crate) fn fault_of<'a>(problem: &'static str) -> Fault<'a> {
+    Fault { word: "", problem }
+}
+
+pub(crate) fn fault_at<'a>(word: &'a str, problem: &'static str) -> Fault<'a> {
+    Fault { word, problem }
 }
 
 // The part of a line before a comment.
@@ -149,26 +130,29 @@ fn word_or<'a>(words: &[&'a str], at: usize, default: &'a str) -> &'a str {
 // enter NAME KIND [CATEGORY [SPREAD [PARTS]]]
 fn parse_enter<'a>(words: &[&'a str]) -> Result<Edit<'a>, Fault<'a>> {
     if words.len() < 2 || words.len() > 5 {
-        return Err(Fault::Words("enter NAME KIND [CATEGORY [SPREAD [PARTS]]]"));
+        return Err(fault_of("write: enter NAME KIND [CATEGORY [SPREAD [PARTS]]]"));
     }
     let name = words[0];
     if let Named::Number(_) = action_named(name) {
-        return Err(Fault::NameIsANumber(name));
+        return Err(fault_at(name, "is a number and cannot be a name"));
     }
     let Some(kind) = kind_number(words[1]) else {
-        return Err(Fault::NotAKind(words[1]));
+        return Err(fault_at(
+            words[1],
+            "is no kind (permanent, prestress, variable, accidental, seismic, or a number)",
+        ));
     };
     let category = word_or(words, 2, "-");
     let Some(letter) = single_letter(category) else {
-        return Err(Fault::NotALetter(category));
+        return Err(fault_at(category, "is no category letter and not '-'"));
     };
     let word = word_or(words, 3, "fixed");
     let Some(spread) = spread_number(word) else {
-        return Err(Fault::NotASpread(word));
+        return Err(fault_at(word, "is no spread (fixed, free, alternative, or a number)"));
     };
     let word = word_or(words, 4, "1");
     let Ok(parts) = word.parse::<u8>() else {
-        return Err(Fault::NotParts(word));
+        return Err(fault_at(word, "is no number of parts"));
     };
     Ok(Edit::Enter(Entry {
         name,
@@ -182,7 +166,7 @@ fn parse_enter<'a>(words: &[&'a str]) -> Result<Edit<'a>, Fault<'a>> {
 // A call with the name or number of one action.
 fn parse_one<'a>(words: &[&'a str], usage: &'static str) -> Result<Named<'a>, Fault<'a>> {
     if words.len() != 1 {
-        return Err(Fault::Words(usage));
+        return Err(fault_of(usage));
     }
     Ok(action_named(words[0]))
 }
@@ -193,7 +177,7 @@ fn parse_two<'a>(
     usage: &'static str,
 ) -> Result<(Named<'a>, Named<'a>), Fault<'a>> {
     if words.len() != 2 {
-        return Err(Fault::Words(usage));
+        return Err(fault_of(usage));
     }
     Ok((action_named(words[0]), action_named(words[1])))
 }
@@ -201,10 +185,10 @@ fn parse_two<'a>(
 // recast ACTION CATEGORY
 fn parse_recast<'a>(words: &[&'a str]) -> Result<Edit<'a>, Fault<'a>> {
     if words.len() != 2 {
-        return Err(Fault::Words("recast ACTION CATEGORY"));
+        return Err(fault_of("write: recast ACTION CATEGORY"));
     }
     let Some(letter) = single_letter(words[1]) else {
-        return Err(Fault::NotALetter(words[1]));
+        return Err(fault_at(words[1], "is no category letter"));
     };
     Ok(Edit::Recast(action_named(words[0]), letter))
 }
@@ -218,7 +202,7 @@ fn parse_bare<'a>(
     if words.is_empty() {
         Ok(command)
     } else {
-        Err(Fault::Words(usage))
+        Err(fault_of(usage))
     }
 }
 
@@ -226,24 +210,28 @@ fn parse_edit<'a>(call: &'a str, words: &[&'a str]) -> Result<Edit<'a>, Fault<'a
     match call {
         "enter" => parse_enter(words),
         "exclude" => {
-            let (a, b) = parse_two(words, "exclude ACTION ACTION")?;
+            let (a, b) = parse_two(words, "write: exclude ACTION ACTION")?;
             Ok(Edit::Exclude(a, b))
         }
         "lift" => {
-            let (a, b) = parse_two(words, "lift ACTION ACTION")?;
+            let (a, b) = parse_two(words, "write: lift ACTION ACTION")?;
             Ok(Edit::Lift(a, b))
         }
         "recast" => parse_recast(words),
-        "suspend" => Ok(Edit::Suspend(parse_one(words, "suspend ACTION")?)),
-        "resume" => Ok(Edit::Resume(parse_one(words, "resume ACTION")?)),
-        _ => Err(Fault::NoSuchCall(call)),
+        "suspend" => Ok(Edit::Suspend(parse_one(words, "write: suspend ACTION")?)),
+        "resume" => Ok(Edit::Resume(parse_one(words, "write: resume ACTION")?)),
+        _ => Err(fault_at(
+            call,
+            "is no call (enter, exclude, lift, recast, suspend, resume, issue, reopen, rulebook)",
+        )),
     }
 }
 
 fn parse_call<'a>(call: &'a str, words: &[&'a str]) -> Result<Command<'a>, Fault<'a>> {
     match call {
-        "issue" => parse_bare(words, "issue", Command::Issue),
-        "reopen" => parse_bare(words, "reopen", Command::Reopen),
+        "issue" => parse_bare(words, "write: issue", Command::Issue),
+        "reopen" => parse_bare(words, "write: reopen", Command::Reopen),
+        "rulebook" => Ok(Command::Show(parse_rules(words)?)),
         _ => Ok(Command::Change(parse_edit(call, words)?)),
     }
 }

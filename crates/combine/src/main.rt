@@ -1,8 +1,9 @@
-// Plays a load sheet that is given as text, and prints each call with its outcome and then the sheet.
+// Plays a load sheet that is given as text, and prints each call with its outcome and then the sheet; prints rulebooks.
 //
 // combine FILE plays the file, combine plays what comes on standard input.
 mod command;
 mod print;
+mod rules;
 mod session;
 mod words;
 
@@ -13,7 +14,6 @@ use print::print_sheet;
 use session::Session;
 use std::alloc::Global;
 use std::env;
-use std::error::AnyError;
 use std::fs;
 use std::io;
 
@@ -58,12 +58,17 @@ fn play_text(rt: &impl Print, heap: Global, text: &str) -> io::Result<()> {
     print_sheet(rt, &session)
 }
 
-fn run(rt: &LibcRuntime) -> Result<(), AnyError> {
+fn run(rt: &LibcRuntime) -> io::Result<()> {
     let text = read_text(rt)?;
-    play_text(rt, rt.alloc(), text.as_str())?;
-    Ok(())
+    play_text(rt, rt.alloc(), text.as_str())
 }
 
-fn main(rt: LibcRuntime) -> Result<(), AnyError> {
-    rt.report(run(&rt))
+fn main(rt: LibcRuntime) -> io::Result<()> {
+    match run(&rt) {
+        Ok(()) => Ok(()),
+        Err(error) => {
+            eprintln!(rt, "combine: {error}")?;
+            Err(error)
+        }
+    }
 }

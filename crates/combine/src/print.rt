@@ -1,6 +1,7 @@
 // The printout: a line for each call, and the sheet as a table.
 use crate::command::Fault;
 use crate::command::FaultDisplay;
+use crate::rules::print_rules;
 use crate::session::Outcome;
 use crate::session::Session;
 use crate::words::kind_word;
@@ -59,6 +60,10 @@ pub(crate) fn print_call(
         Ok(Outcome::Refused(refusal, reason)) => {
             let number = refusal.number();
             println!(rt, "refused, {number}: {reason}")
+        }
+        Ok(Outcome::Shown(rules)) => {
+            println!(rt, "shown")?;
+            print_rules(rt, rules)
         }
         Err(fault) => println!(rt, "line {place} not played: {fault}"),
     }

@@ -6,6 +6,9 @@ use crate::command::Fault;
 use crate::command::FaultFromAlloc;
 use crate::command::FaultFromRefused;
 use crate::command::Named;
+use crate::command::fault_at;
+use crate::command::fault_of;
+use crate::rules::Rules;
 use crate::words::reason;
 use sheet::action::Refusal;
 use sheet::plain::Sheet;
@@ -34,6 +37,7 @@ pub enum Outcome {
     Entered(usize),
     Done,
     Refused(Refusal, &'static str),
+    Shown(Rules),
 }
 
 fn find_name(names: &[String], name: &str) -> Option<usize> {
@@ -50,7 +54,7 @@ fn number_of<'a>(names: &[String], action: Named<'a>) -> Result<usize, Fault<'a>
         Named::Number(number) => Ok(number),
         Named::Name(name) => match find_name(names, name) {
             Some(number) => Ok(number),
-            None => Err(Fault::NoSuchName(name)),
+            None => Err(fault_at(name, "is the name of no action")),
         },
     }
 }
@@ -70,7 +74,7 @@ fn enter<'a>(
     entry: Entry<'a>,
 ) -> Result<Outcome, Fault<'a>> {
     if find_name(names, entry.name).is_some() {
-        return Err(Fault::NameTaken(entry.name));
+        return Err(fault_at(entry.name, "is the name of another action"));
     }
     names.push(String::from_str(heap, entry.name)?)?;
     match draft.enter(entry.kind, entry.letter, entry.spread, entry.parts) {
@@ -149,12 +153,23 @@ impl Session {
                     (State::Draft(draft), outcome)
                 }
                 Command::Issue => (State::Issued(draft.issue()), Ok(Outcome::Done)),
-                Command::Reopen => (State::Draft(draft), Err(Fault::AlreadyADraft)),
+                Command::Reopen => (
+                    State::Draft(draft),
+                    Err(fault_of("the sheet is a draft already")),
+                ),
+                Command::Show(rules) => (State::Draft(draft), Ok(Outcome::Shown(rules))),
             },
             State::Issued(issued) => match command {
-                Command::Change(_) => (State::Issued(issued), Err(Fault::SheetIssued)),
-                Command::Issue => (State::Issued(issued), Err(Fault::AlreadyIssued)),
+                Command::Change(_) => (
+                    State::Issued(issued),
+                    Err(fault_of("the sheet is issued; reopen it first")),
+                ),
+                Command::Issue => (
+                    State::Issued(issued),
+                    Err(fault_of("the sheet is issued already")),
+                ),
                 Command::Reopen => (State::Draft(issued.reopen()), Ok(Outcome::Done)),
+                Command::Show(rules) => (State::Issued(issued), Ok(Outcome::Shown(rules))),
             },
         };
         (Session { state, names }, outcome)

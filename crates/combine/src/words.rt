@@ -4,25 +4,37 @@ use basis::action::Kind;
 use basis::action::Spread;
 use sheet::action::Refusal;
 
+// What a word stands for in a table of words.
+pub(crate) fn look_up<T: Copy>(table: &[(&str, T)], word: &str) -> Option<T> {
+    for (known, value) in table {
+        if *known == word {
+            return Some(*value);
+        }
+    }
+    None
+}
+
 // A kind's number, by its word or its number.
 pub(crate) fn kind_number(word: &str) -> Option<u8> {
-    match word {
-        "permanent" => Some(1),
-        "prestress" => Some(2),
-        "variable" => Some(3),
-        "accidental" => Some(4),
-        "seismic" => Some(5),
-        _ => word.parse::<u8>().ok(),
+    let kinds = [
+        ("permanent", 1),
+        ("prestress", 2),
+        ("variable", 3),
+        ("accidental", 4),
+        ("seismic", 5),
+    ];
+    match look_up(&kinds, word) {
+        Some(number) => Some(number),
+        None => word.parse::<u8>().ok(),
     }
 }
 
 // A spread's number, by its word or its number.
 pub(crate) fn spread_number(word: &str) -> Option<u8> {
-    match word {
-        "fixed" => Some(1),
-        "free" => Some(2),
-        "alternative" => Some(3),
-        _ => word.parse::<u8>().ok(),
+    let spreads = [("fixed", 1), ("free", 2), ("alternative", 3)];
+    match look_up(&spreads, word) {
+        Some(number) => Some(number),
+        None => word.parse::<u8>().ok(),
     }
 }
 

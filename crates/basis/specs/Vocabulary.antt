@@ -25,6 +25,7 @@ coded (c ∷ cs) (x ∷ xs) code = cond (eqb code c) (Some x) (coded cs xs code)
 abbrev pub kind-of : ℕ → Option Kind
 kind-of = coded (1 ∷ 2 ∷ 3 ∷ 4 ∷ 5 ∷ []) (Permanent ∷ Prestress ∷ Variable ∷ Accidental ∷ Seismic ∷ [])
 
+-- the number of a kind
 abbrev pub kind-number : Kind → ℕ
 kind-number Permanent = 1
 kind-number Prestress = 2
@@ -32,6 +33,7 @@ kind-number Variable = 3
 kind-number Accidental = 4
 kind-number Seismic = 5
 
+-- only variable actions have categories and can be excluded
 abbrev pub is-variable : Kind → Bool
 is-variable Permanent = false
 is-variable Prestress = false
@@ -43,6 +45,7 @@ is-variable Seismic = false
 abbrev pub spread-of : ℕ → Option Spread
 spread-of = coded (1 ∷ 2 ∷ 3 ∷ []) (Fixed ∷ Free ∷ Alternative ∷ [])
 
+-- the number of a spread
 abbrev pub spread-number : Spread → ℕ
 spread-number Fixed = 1
 spread-number Free = 2

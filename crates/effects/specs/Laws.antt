@@ -17,10 +17,11 @@ pub record Closed {E : Type 0} (components : E → List ℤ) (count : ℕ) : Typ
   pub add : (a b : E) → (s : E) × (components s ≡ sum (components a) (components b))
   pub scale : (f : ℕ) (a : E) → (m : E) × (components m ≡ multiple f (components a))
 
--- the sizes up to which the laws are asked: 2 × 10^17, and 2 × 10^11 where a factor comes in
+-- the size up to which the laws without a factor are asked: 2 × 10^17
 abbrev pub Large : List ℤ → Type 0
 Large xs = size xs ≤ 200_000_000_000_000_000
 
+-- and those with a factor: 2 × 10^11
 abbrev pub Small : List ℤ → Type 0
 Small xs = size xs ≤ 200_000_000_000
 
@@ -35,6 +36,7 @@ module _ {E : Type 0} (components : E → List ℤ) (count : ℕ) (reaches : Lis
   Total = (a b : E) → Large (components a) → Large (components b)
       → T (reaches (components a) (components b)) ⊎ T (reaches (components b) (components a))
 
+  -- what is at or above a second, which is at or above a third, is at or above the third
   abbrev pub Transitive : Type 0
   Transitive = (a b c : E) → Large (components a) → Large (components b) → Large (components c)
       → T (reaches (components a) (components b)) → T (reaches (components b) (components c))
@@ -58,6 +60,7 @@ module _ {E : Type 0} (components : E → List ℤ) (count : ℕ) (reaches : Lis
       → T (reaches (components a) (zeros count))
       → T (reaches (multiple g (components a)) (multiple f (components a)))
 
+  -- all five
   pub record Laws : Type 0 where
     pub total : Total
     pub transitive : Transitive

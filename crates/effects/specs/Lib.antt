@@ -1,3 +1,4 @@
 pub mod Components
 pub mod Rankings
 pub mod Laws
+pub mod Supplies

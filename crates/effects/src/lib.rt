@@ -3,4 +3,5 @@ mod component;
 pub mod effect;
 pub mod section;
 pub mod single;
+pub mod supply;
 pub mod turned;

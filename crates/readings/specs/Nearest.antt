@@ -9,21 +9,25 @@ use Rattle.std.specs.declared.option.Option.the-variants.{Some, None}
 
 -- A finite float is exactly ± size / unit, which are whole numbers.
 
+-- neither a NaN nor an infinity
 abbrev pub finite : Float → Bool
 finite nan = false
 finite (inf s) = false
 finite (fin s m e) = true
 
+-- the sign
 abbrev pub negative : Float → Bool
 negative nan = false
 negative (inf s) = s
 negative (fin s m e) = s
 
+-- the magnitude, as a multiple of 1 / unit
 abbrev pub size : Float → ℕ
 size nan = 0
 size (inf s) = 0
 size (fin s m e) = m * up e
 
+-- the denominator, a power of two
 abbrev pub unit : Float → ℕ
 unit nan = 1
 unit (inf s) = 1
@@ -45,6 +49,7 @@ closer q r d = cond (ltb (r * 2) d) q (cond (ltb d (r * 2)) (suc q) (tie q))
 abbrev pub nearest : ℕ → ℕ → ℕ
 nearest n d = closer (n / d) (n % d) d
 
+-- a magnitude with its sign
 abbrev pub signed : Bool → ℕ → ℤ
 signed false n = pos n
 signed true n = negℤ (pos n)

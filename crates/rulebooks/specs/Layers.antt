@@ -47,6 +47,7 @@ classed k b =
 abbrev pub without : Category → (Category → ℕ) → Category → ℕ
 without struck factor c = cond (eqb (category-place c) (category-place struck)) 0 (factor c)
 
+-- leading and accompanying without the struck category
 abbrev pub stage-form : Category → Form → Form
 stage-form struck f =
     record {

@@ -21,6 +21,7 @@ tenths Psi2 = ψ2
 abbrev pub term : Term → Category → ℕ
 term t = product (t .gamma) (tenths (t .share))
 
+-- the term of a partial factor and a share
 abbrev pub term-of : ℕ → Share → Term
 term-of g s = record { gamma = g; share = s }
 
@@ -29,5 +30,6 @@ abbrev pub row-form : ℕ → ℕ → Option Term → Term → Form
 row-form up low (Some t) acc = led up low (term t) (term acc)
 row-form up low None acc = unled up low (term acc)
 
+-- the form that a row means
 abbrev pub form-of : Row → Form
 form-of r = row-form (r .upper .units) (r .lower .units) (r .leading) (r .accompanying)

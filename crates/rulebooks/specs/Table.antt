@@ -28,16 +28,19 @@ psi HighSnow = ψs 7 5 2
 psi Wind = ψs 6 2 0
 psi Temperature = ψs 6 5 0
 
--- shares of the value of a variable action, in tenths: all of it, ψ0, ψ1, ψ2
+-- the share of a variable action that is taken, in tenths: all of it
 abbrev pub one : Category → ℕ
 one c = 10
 
+-- the combination value
 abbrev pub ψ0 : Category → ℕ
 ψ0 c = psi c .psi0
 
+-- the frequent value
 abbrev pub ψ1 : Category → ℕ
 ψ1 c = psi c .psi1
 
+-- the quasi-permanent value
 abbrev pub ψ2 : Category → ℕ
 ψ2 c = psi c .psi2
 
@@ -55,10 +58,11 @@ abbrev pub unled : ℕ → ℕ → (Category → ℕ) → Form
 unled up low acc =
     record { leader = false; upper = up; lower = low; prestress = 100_000; leading = acc; accompanying = acc }
 
+-- a rulebook of one form
 abbrev pub one-form : Situation → Bool → Form → Book
 one-form s b f = record { situation = s; splits = b; forms = 1; form = λ _. f }
 
--- a form past the last counts as form 0
+-- a rulebook of two forms; a form past the last counts as form 0
 abbrev pub two-forms : Situation → Bool → Form → Form → Book
 two-forms s b f g = record { situation = s; splits = b; forms = 2; form = λ i. cond (eqb i 1) g f }
 

@@ -62,7 +62,7 @@ impl Term {
 }
 
 impl Row {
-    // A form with a leader; upper and lower in hundredths of a hundredth.
+    // A form with a leader.
     pub(crate) fn led(upper: Factor, lower: Factor, leading: Term, accompanying: Term) -> Row
         ensures { λ r. ⌜ form-of r ≡ led-form (upper .units) (lower .units) (term leading) (term accompanying) ⌝ }
     {

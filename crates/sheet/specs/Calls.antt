@@ -83,6 +83,7 @@ lifting s a b = settled s (pair-to-mark s a b (s .marked a b)) (λ _. tt) (λ _.
 abbrev pub new-category : Content → ℕ → ℕ → Answer Category
 new-category s a letter = ask 6 (entered s a) (ask 7 (variable-at s a) (ask-for 2 (category-of letter) granted))
 
+-- an action with another category
 abbrev pub with-category : Category → Action → Action
 with-category c x = record { kind = x .kind; category = Some c; spread = x .spread; parts = x .parts; active = x .active }
 
@@ -94,6 +95,7 @@ recasting s a letter = settled s (new-category s a letter) (λ _. tt) (λ c. wit
 abbrev pub to-switch : Content → ℕ → Bool → Answer Unit
 to-switch s a changes = ask 6 (entered s a) (ask 9 changes (granted tt))
 
+-- an action switched on or off
 abbrev pub switched : Bool → Action → Action
 switched on x = record { kind = x .kind; category = x .category; spread = x .spread; parts = x .parts; active = on }
 

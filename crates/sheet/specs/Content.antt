@@ -9,7 +9,6 @@ use Rattle.basis.specs.Vocabulary.{is-variable}
 use Rattle.sheet.specs.declared.action.Action.{Action}
 use Rattle.sheet.specs.declared.plain.Sheet.{Sheet}
 use Rattle.sheet.specs.declared.states.Draft.{Draft}
-use Rattle.sheet.specs.declared.states.Issued.{Issued}
 use Rattle.sheet.specs.Limits.{no-action, marked-in}
 
 -- the actions in order of entry, and which pairs of action numbers are marked as excluded
@@ -17,14 +16,13 @@ pub record Content : Type 0 where
   pub actions : List Action
   pub marked : ℕ → ℕ → Bool
 
+-- what is on the plain sheet of the code
 abbrev pub content : Sheet → Content
 content s = record { actions = vec-items (s .actions); marked = marked-in (s .marks) }
 
+-- on a draft
 abbrev pub on-draft : Draft → Content
 on-draft d = content (d .sheet)
-
-abbrev pub on-issued : Issued → Content
-on-issued i = content (i .sheet)
 
 -- a new sheet: no action, no marked pair
 abbrev pub blank : Content
@@ -34,9 +32,11 @@ blank = record { actions = []; marked = λ _ _. false }
 abbrev pub action-at : Content → ℕ → Action
 action-at s a = getD (s .actions) a no-action
 
+-- an action has the number
 abbrev pub entered : Content → ℕ → Bool
 entered s a = ltb a (length (s .actions))
 
+-- the action of the number is variable
 abbrev pub variable-at : Content → ℕ → Bool
 variable-at s a = is-variable (action-at s a .kind)
 

@@ -15,6 +15,7 @@ pub data Edit : Type 0 where
   suspend : ℕ → Edit
   resume : ℕ → Edit
 
+-- all calls
 pub data Call : Type 0 where
   edit : Edit → Call
   issue : Call
@@ -25,10 +26,12 @@ pub data State : Type 0 where
   draft : Content → State
   issued : Content → State
 
+-- what is on a sheet in either state
 abbrev pub held : State → Content
 held (draft s) = s
 held (issued s) = s
 
+-- the answer is no refusal
 abbrev pub is-granted : {X : Type 0} → Answer X → Bool
 is-granted (granted x) = true
 is-granted (denied q) = false

@@ -28,9 +28,11 @@ pub record Only-action (Same : Action → Action → Type 0) (a : ℕ) (s s′ :
   pub itself : Same (action-at s a) (action-at s′ a)
   pub marks : s′ .marked ≡ s .marked
 
+-- the same action but for its category
 abbrev pub Same-but-category : Action → Action → Type 0
 Same-but-category x y = (y .kind ≡ x .kind) × (y .spread ≡ x .spread) × (y .parts ≡ x .parts) × (y .active ≡ x .active)
 
+-- the same action but for being active
 abbrev pub Same-but-active : Action → Action → Type 0
 Same-but-active x y = (y .kind ≡ x .kind) × (y .category ≡ x .category) × (y .spread ≡ x .spread) × (y .parts ≡ x .parts)
 

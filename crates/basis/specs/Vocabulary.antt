@@ -41,6 +41,10 @@ is-variable Variable = true
 is-variable Accidental = false
 is-variable Seismic = false
 
+-- the same kind
+abbrev pub same-kind : Kind → Kind → Bool
+same-kind k l = eqb (kind-number k) (kind-number l)
+
 -- spreads are numbered from 1
 abbrev pub spread-of : ℕ → Option Spread
 spread-of = coded (1 ∷ 2 ∷ 3 ∷ []) (Fixed ∷ Free ∷ Alternative ∷ [])

@@ -17,7 +17,7 @@ use Rattle.sheet.specs.Limits.{in-limits, well-formed, no-action, can-pair, Li
 use Rattle.sheet.specs.Content.{Content, blank, action-at, entered, variable-at, with-entry, with-action, with-mark, same-pair}
 use Rattle.sheet.specs.Answers.{Answer, granted, denied}
 use Rattle.sheet.specs.Calls.{Outcome, ask, settled, described, admitted, entering, pair-to-mark, excluding, lifting, new-category, with-category, recasting, to-switch, switched, suspending, resuming}
-use Rattle.sheet.specs.Histories.{Edit, enter, exclude, lift, recast, suspend, resume, Call, State, draft, issued, held, is-granted, accepted, edited, Runs, ends, edits, issues, reopens, Leaves}
+use Rattle.sheet.specs.Histories.{Edit, enter, exclude, lift, recast, suspend, resume, Call, State, draft, issued, held, is-granted, accepted, edited, Runs, ends, edits, issues, reopens, asks, Leaves}
 use Rattle.sheet.specs.Laws.{Sound, Undone-by, Laws, Only-action, Same-but-category, Same-but-active, Only-pair}
 use Rattle.sheet.proofs.Marks.{same-content}
 use Rattle.sheet.proofs.Keeping.{limited, formed-push, paired-push, limited-set, formed-set, paired-set, paired-mark, pair-parts, variable-entered, well-formed-recast}
@@ -42,7 +42,7 @@ refused-calls-change-nothing s (resume a) h = settled-refused s (to-switch s a (
 
 -- what the questions of each call say of the sheet when they are all answered yes
 
-admitted-yes : (s : Content) (a : Answer Action) (x : Action) → granted x ≡ admitted s a → (granted x ≡ a) × (in-limits (s .actions ++ x ∷ []) ≡ true)
+pub admitted-yes : (s : Content) (a : Answer Action) (x : Action) → granted x ≡ admitted s a → (granted x ≡ a) × (in-limits (s .actions ++ x ∷ []) ≡ true)
 admitted-yes s (denied q) x e = absurd (let z : _≡_ {A = ℕ} 0 1 = cc in omega arith)
 admitted-yes s (granted y) x e =
     let yes′ = ask-yes 5 (in-limits (s .actions ++ y ∷ [])) (granted y) x e in
@@ -55,7 +55,7 @@ pair-yes s a b changes e =
     let three = ask-yes 8 changes _ tt (two .1) in
     (one .0, two .0, three .0)
 
-switch-yes : (s : Content) (a : ℕ) (changes : Bool) → granted tt ≡ to-switch s a changes → (a < length (s .actions)) × (changes ≡ true)
+pub switch-yes : (s : Content) (a : ℕ) (changes : Bool) → granted tt ≡ to-switch s a changes → (a < length (s .actions)) × (changes ≡ true)
 switch-yes s a changes e =
     let one = ask-yes 6 (entered s a) _ tt e in
     let two = ask-yes 9 changes _ tt (one .1) in
@@ -132,6 +132,7 @@ sound-runs x h y ends k = k
 sound-runs x h y (edits {s} {e} allowed rest) k = sound-runs _ _ y rest (sound-edited s e k)
 sound-runs x h y (issues rest) k = sound-runs _ _ y rest k
 sound-runs x h y (reopens rest) k = sound-runs _ _ y rest k
+sound-runs x h y (asks rest) k = sound-runs _ _ y rest k
 
 sound-blank : Sound blank
 sound-blank = sound-from {room = 32} blank (lit≤ tt, lit≤ tt, lit≤ tt, lit≤ tt) (λ i h. absurd (omega arith)) (λ a b m. absurd (true≢false (sym m))) (λ a b. refl)

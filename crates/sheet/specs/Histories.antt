@@ -20,6 +20,7 @@ pub data Call : Type 0 where
   edit : Edit → Call
   issue : Call
   reopen : Call
+  envelope : Call
 
 -- a draft or an issued sheet, with what is on it
 pub data State : Type 0 where
@@ -54,12 +55,14 @@ edited s (recast a c) = recasting s a c .1
 edited s (suspend a) = suspending s a .1
 edited s (resume a) = resuming s a .1
 
--- From one state to another by calls that each state permits: a draft takes edits and is issued, an issued sheet is reopened.
+-- From one state to another by calls that each state permits: a draft takes edits and is issued, an issued sheet takes
+-- envelopes, which change nothing, and is reopened.
 pub data Runs (Allowed : Content → Edit → Type 0) : State → List Call → State → Type 0 where
   ends : {x : State} → Runs Allowed x [] x
   edits : {s : Content} {e : Edit} {h : List Call} {y : State} → Allowed s e → Runs Allowed (draft (edited s e)) h y → Runs Allowed (draft s) (edit e ∷ h) y
   issues : {s : Content} {h : List Call} {y : State} → Runs Allowed (issued s) h y → Runs Allowed (draft s) (issue ∷ h) y
   reopens : {s : Content} {h : List Call} {y : State} → Runs Allowed (draft s) h y → Runs Allowed (issued s) (reopen ∷ h) y
+  asks : {s : Content} {h : List Call} {y : State} → Runs Allowed (issued s) h y → Runs Allowed (issued s) (envelope ∷ h) y
 
 -- a history of a state: permitted calls from a new draft that leave it
 abbrev pub Leaves : List Call → State → Type 0

@@ -15,7 +15,7 @@ pub returns : need.returns
 returns g c =
     let e = g .E·Effect in
     let all : e .components (c .loop-effect .total) ≡ folded (λ t x. sum t (e .components x)) (zeros (e .count)) (c .args .effects .now) =
-        c .loop-effect .inv .1 ∙ ap (folded (λ t x. sum t (e .components x)) (zeros (e .count))) (take-all _ _ (c .loop-effect-test .left)) in
+    c .loop-effect .inv .1 ∙ ap (folded (λ t x. sum t (e .components x)) (zeros (e .count))) (take-all _ _ (c .loop-effect-test .left)) in
     record {
       value = all ∙ folded-map (e .components) (zeros (e .count)) (c .args .effects .now);
       exact = λ supply. all ∙ supply-exact (g .E·Effect·met .closed) (c .args .effects .now) supply;

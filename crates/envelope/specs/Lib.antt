@@ -1,0 +1,10 @@
+pub mod Places
+pub mod Entries
+pub mod Combinations
+pub mod Admissible
+pub mod Choices
+pub mod Reported
+pub mod Answers
+pub mod Histories
+pub mod Promise
+pub mod Figures

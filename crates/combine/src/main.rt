@@ -1,6 +1,8 @@
 // Plays a load sheet that is given as text, and prints each call with its outcome and then the sheet; prints rulebooks.
 //
 // combine FILE plays the file, combine plays what comes on standard input.
+#![tactic(auto)]
+
 mod command;
 mod print;
 mod rules;

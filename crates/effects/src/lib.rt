@@ -1,4 +1,6 @@
 // Effects of actions: what an effect is, and the kinds of effect.
+#![tactic(auto)]
+
 mod component;
 pub mod effect;
 pub mod section;

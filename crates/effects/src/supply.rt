@@ -8,8 +8,8 @@ use crate::effect::Effect;
 
 // The sum of a list of effects. No component stops where the list may be supplied for the parts of a sheet.
 pub fn total_of<E: Effect>(effects: &[E]) -> E
-    ensures value { components result ≡ total count (map components effects.now) }
-    ensures exact { Supply (map components effects.now) → components result ≡ exact_total count (map components effects.now) }
+    ensures value { E.components result ≡ total E.count (map E.components effects.now) }
+    ensures exact { Supply (map E.components effects.now) → E.components result ≡ exact_total E.count (map E.components effects.now) }
 {
     let mut total = E::zero();
     for effect in effects {
@@ -20,8 +20,8 @@ pub fn total_of<E: Effect>(effects: &[E]) -> E
 
 // The place of the greatest of a list of effects, the lowest where there are several.
 pub fn greatest<E: Effect>(effects: &[E]) -> Option<usize>
-    ensures value { result ≡ greatest_of reaches (map components effects.now) }
-    ensures first { All Large (map components effects.now) → MatchOption result (length effects.now ≡ 0) (λ b. Greatest reaches (map components effects.now) (length effects.now) b) }
+    ensures value { result ≡ greatest_of E.reaches (map E.components effects.now) }
+    ensures first { All Large (map E.components effects.now) → MatchOption result (length effects.now ≡ 0) (λ b. Greatest E.reaches (map E.components effects.now) (length effects.now) b) }
 {
     if effects.is_empty() {
         return None;

@@ -19,9 +19,9 @@ use sheet::plain::Sheet;
 
 // What an action that is not variable adds in a form; nothing for a variable or suspended one.
 fn share_of<R: Rulebook, E: Effect>(entry: &Slot, parts: &[E], mask: u16, book: &R, form: u8) -> E
-    requires supply { Supply (map components parts.now) }
+    requires supply { Supply (map E.components parts.now) }
     requires few { length parts.now ≤ 16 }
-    ensures { components result ≡ fixed_share count ((meaning book.now).form form) (entry_of entry.now) mask (map components parts.now) }
+    ensures { E.components result ≡ fixed_share E.count ((R.meaning book.now).form form) (entry_of entry.now) mask (map E.components parts.now) }
 {
     if !entry.action.active {
         return E::zero();
@@ -47,9 +47,9 @@ pub(crate) fn base_of<R: Rulebook, E: Effect>(
     form: u8,
 ) -> E
     requires laid { map entry_of entries.now ≡ entries_of (content sheet.now) }
-    requires supplied { Supplied (content sheet.now) (map components effects.now) }
-    requires full { masks.now ≡ (with_chosen count reaches (content sheet.now) (meaning book.now) (map components effects.now) 0 None 4095).masks }
-    ensures { components result ≡ exact_total count (map (base_share count reaches (content sheet.now) (meaning book.now) (map components effects.now) form) (entries_of (content sheet.now))) }
+    requires supplied { Supplied (content sheet.now) (map E.components effects.now) }
+    requires full { masks.now ≡ (with_chosen E.count E.reaches (content sheet.now) (R.meaning book.now) (map E.components effects.now) 0 None 4095).masks }
+    ensures { E.components result ≡ exact_total E.count (map (base_share E.count E.reaches (content sheet.now) (R.meaning book.now) (map E.components effects.now) form) (entries_of (content sheet.now))) }
 {
     let _ = sheet;
     let mut total = E::zero();

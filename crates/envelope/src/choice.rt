@@ -15,7 +15,7 @@ use effects::supply::{greatest, total_of};
 
 // Whether an effect ranks above zero.
 fn is_above_zero<E: Effect>(effect: E) -> bool
-    ensures { result ≡ above_zero count reaches (components effect) }
+    ensures { result ≡ above_zero E.count E.reaches (E.components effect) }
 {
     !E::zero().at_or_above(effect)
 }
@@ -31,7 +31,7 @@ pub(crate) fn all_parts(parts: usize) -> u16
 // The parts that rank above zero.
 fn parts_above_zero<E: Effect>(parts: &[E]) -> u16
     requires { length parts.now ≤ 16 }
-    ensures { result ≡ choice count reaches Free (map components parts.now) }
+    ensures { result ≡ choice E.count E.reaches Free (map E.components parts.now) }
 {
     let mut mask = 0;
     for (p, part) in parts.iter().enumerate() {
@@ -44,9 +44,9 @@ fn parts_above_zero<E: Effect>(parts: &[E]) -> u16
 
 // All parts if their sum ranks above zero, else none.
 fn all_if_above_zero<E: Effect>(parts: &[E]) -> u16
-    requires supply { Supply (map components parts.now) }
+    requires supply { Supply (map E.components parts.now) }
     requires few { length parts.now ≤ 16 }
-    ensures { result ≡ choice count reaches Fixed (map components parts.now) }
+    ensures { result ≡ choice E.count E.reaches Fixed (map E.components parts.now) }
 {
     if is_above_zero(total_of(parts)) {
         all_parts(parts.len())
@@ -57,7 +57,7 @@ fn all_if_above_zero<E: Effect>(parts: &[E]) -> u16
 
 // The number of the greatest part, the lowest where there are several.
 fn greatest_part<E: Effect>(parts: &[E]) -> usize
-    ensures value { result ≡ greatest_part count reaches (map components parts.now) }
+    ensures value { result ≡ greatest_part E.count E.reaches (map E.components parts.now) }
     ensures within { 1 ≤ length parts.now → result < length parts.now }
 {
     greatest(parts).unwrap_or(0)
@@ -65,10 +65,10 @@ fn greatest_part<E: Effect>(parts: &[E]) -> usize
 
 // The mask of a variable action, if it is present; 0 where it has no choice.
 pub(crate) fn choice_of<E: Effect>(spread: Spread, parts: &[E]) -> u16
-    requires supply { Supply (map components parts.now) }
+    requires supply { Supply (map E.components parts.now) }
     requires some { 1 ≤ length parts.now }
     requires few { length parts.now ≤ 16 }
-    ensures { result ≡ choice count reaches spread (map components parts.now) }
+    ensures { result ≡ choice E.count E.reaches spread (map E.components parts.now) }
 {
     match spread {
         Spread::Fixed => all_if_above_zero(parts),
@@ -86,9 +86,9 @@ pub(crate) fn choice_of<E: Effect>(spread: Spread, parts: &[E]) -> u16
 
 // The parts of a permanent action that are at upper.
 pub(crate) fn at_upper<E: Effect>(splits: bool, parts: &[E]) -> u16
-    requires supply { Supply (map components parts.now) }
+    requires supply { Supply (map E.components parts.now) }
     requires few { length parts.now ≤ 16 }
-    ensures { result ≡ at_upper count reaches splits (map components parts.now) }
+    ensures { result ≡ at_upper E.count E.reaches splits (map E.components parts.now) }
 {
     if splits {
         parts_above_zero(parts)
@@ -100,7 +100,7 @@ pub(crate) fn at_upper<E: Effect>(splits: bool, parts: &[E]) -> u16
 // The parts of an event that act.
 pub(crate) fn event_choice<E: Effect>(spread: Spread, parts: &[E]) -> u16
     requires { length parts.now ≤ 16 }
-    ensures { result ≡ event_choice count reaches spread (map components parts.now) }
+    ensures { result ≡ event_choice E.count E.reaches spread (map E.components parts.now) }
 {
     match spread {
         Spread::Fixed | Spread::Free => all_parts(parts.len()),
@@ -110,9 +110,9 @@ pub(crate) fn event_choice<E: Effect>(spread: Spread, parts: &[E]) -> u16
 
 // What an event adds.
 pub(crate) fn event_effect<E: Effect>(spread: Spread, parts: &[E]) -> E
-    requires supply { Supply (map components parts.now) }
+    requires supply { Supply (map E.components parts.now) }
     requires some { 1 ≤ length parts.now }
-    ensures { components result ≡ event_effect count reaches spread (map components parts.now) }
+    ensures { E.components result ≡ event_effect E.count E.reaches spread (map E.components parts.now) }
 {
     match spread {
         Spread::Fixed | Spread::Free => total_of(parts),
@@ -122,10 +122,10 @@ pub(crate) fn event_effect<E: Effect>(spread: Spread, parts: &[E]) -> E
 
 // The sum of the parts that a mask holds, and the sum of the others.
 fn sums_by<E: Effect>(parts: &[E], mask: u16) -> (E, E)
-    requires supply { Supply (map components parts.now) }
+    requires supply { Supply (map E.components parts.now) }
     requires few { length parts.now ≤ 16 }
-    ensures inside { components result.0 ≡ weighted count (λ p. (if in_set mask p then 1 else 0)) (map components parts.now) }
-    ensures outside { components result.1 ≡ weighted count (λ p. (if in_set mask p then 0 else 1)) (map components parts.now) }
+    ensures inside { E.components result.0 ≡ weighted E.count (λ p. (if in_set mask p then 1 else 0)) (map E.components parts.now) }
+    ensures outside { E.components result.1 ≡ weighted E.count (λ p. (if in_set mask p then 0 else 1)) (map E.components parts.now) }
 {
     let mut inside = E::zero();
     let mut outside = E::zero();
@@ -141,9 +141,9 @@ fn sums_by<E: Effect>(parts: &[E], mask: u16) -> (E, E)
 
 // The sum of the parts, each times a factor: those in the mask at the first, the others at the second.
 pub(crate) fn weigh<E: Effect>(parts: &[E], mask: u16, inside: Factor, outside: Factor) -> E
-    requires supply { Supply (map components parts.now) }
+    requires supply { Supply (map E.components parts.now) }
     requires few { length parts.now ≤ 16 }
-    ensures { components result ≡ weighted count (by_mask inside.units outside.units mask) (map components parts.now) }
+    ensures { E.components result ≡ weighted E.count (by_mask inside.units outside.units mask) (map E.components parts.now) }
 {
     let (held, others) = sums_by(parts, mask);
     held.times(inside).sum(others.times(outside))
@@ -151,9 +151,9 @@ pub(crate) fn weigh<E: Effect>(parts: &[E], mask: u16, inside: Factor, outside: 
 
 // The sum of the parts in the mask, times a factor.
 pub(crate) fn contribution_of<E: Effect>(parts: &[E], mask: u16, factor: Factor) -> E
-    requires supply { Supply (map components parts.now) }
+    requires supply { Supply (map E.components parts.now) }
     requires few { length parts.now ≤ 16 }
-    ensures { components result ≡ exact_multiple factor.units (weighted count (λ p. (if in_set mask p then 1 else 0)) (map components parts.now)) }
+    ensures { E.components result ≡ exact_multiple factor.units (weighted E.count (λ p. (if in_set mask p then 1 else 0)) (map E.components parts.now)) }
 {
     let (held, _) = sums_by(parts, mask);
     held.times(factor)

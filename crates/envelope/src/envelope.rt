@@ -23,7 +23,7 @@ const STRIP: usize = 24;
 
 // The number of the first part whose effect is too large.
 fn first_too_large<E: Effect>(effects: &[E]) -> Option<usize>
-    ensures { result ≡ too_large 0 (map components effects.now) }
+    ensures { result ≡ too_large 0 (map E.components effects.now) }
 {
     for (part, effect) in effects.iter().enumerate() {
         if effect.size() > LARGEST {
@@ -55,7 +55,7 @@ fn check<R: Rulebook, E: Effect>(
     effects: &[E],
     room: usize,
 ) -> Result<(), Refusal>
-    ensures { MatchResult result (λ _. Accepted (content sheet.now) (meaning book.now) (map components effects.now) room) (λ e. answer count reaches (content sheet.now) (meaning book.now) (map components effects.now) room ≡ reply_of components (Err e)) }
+    ensures { MatchResult result (λ _. Accepted (content sheet.now) (R.meaning book.now) (map E.components effects.now) room) (λ e. answer E.count E.reaches (content sheet.now) (R.meaning book.now) (map E.components effects.now) room ≡ reply_of E.components (Err e)) }
 {
     if effects.len() != sheet.parts() {
         return Err(Refusal::NotAsManyEffects);
@@ -81,8 +81,8 @@ pub fn envelope<R: Rulebook, E: Effect>(
     effects: &[E],
     strip: &mut [E],
 ) -> Result<Extreme<E>, Refusal>
-    ensures promise { WholePromise components count reaches (content sheet.now.sheet) (meaning book.now) effects.now strip.old strip.new (reply_of components result) }
-    ensures runs { RunLaw components count reaches (meaning book.now) }
+    ensures promise { WholePromise E.components E.count E.reaches (content sheet.now.sheet) (R.meaning book.now) effects.now strip.old strip.new (reply_of E.components result) }
+    ensures runs { RunLaw E.components E.count E.reaches (R.meaning book.now) }
 {
     let sheet = sheet.sheet();
     check(sheet, book, effects, strip.len())?;

@@ -1,4 +1,6 @@
 // Combinations of actions: what is admissible, what is reported, and the proof that nothing outranks it.
+#![tactic(auto)]
+
 ghost use Rattle.envelope.specs.Figures.{Figures, ToldApart};
 
 mod base;

@@ -35,7 +35,7 @@ struct Ranked<E> {
 
 // The greater of the best so far, if any, and the next; the best so far where they are level.
 fn greater<E: Effect>(best: Option<Ranked<E>>, next: Ranked<E>) -> Ranked<E>
-    ensures { result ≡ elim best [ None ↦ next | Some b ↦ (if reaches (components b.effect) (components next.effect) then b else next) ] }
+    ensures { result ≡ elim best [ None ↦ next | Some b ↦ (if E.reaches (E.components b.effect) (E.components next.effect) then b else next) ] }
 {
     match best {
         Some(best) => {
@@ -57,8 +57,8 @@ pub(crate) fn chosen_event<E: Effect>(
     kind: Option<Kind>,
 ) -> Option<usize>
     requires laid { map entry_of entries.now ≡ entries_of (content sheet.now) }
-    requires supplied { Supplied (content sheet.now) (map components effects.now) }
-    ensures { result ≡ event_of count reaches kind (content sheet.now) (map components effects.now) }
+    requires supplied { Supplied (content sheet.now) (map E.components effects.now) }
+    ensures { result ≡ event_of E.count E.reaches kind (content sheet.now) (map E.components effects.now) }
 {
     let _ = sheet;
     let Some(sought) = kind else {
@@ -90,10 +90,10 @@ fn is_named(name: Option<usize>, number: usize) -> bool
 
 // The mask of an action, as if every variable action with a choice were present.
 fn mask_of<E: Effect>(entry: &Slot, parts: &[E], splits: bool, event: Option<usize>) -> u16
-    requires supply { Supply (map components parts.now) }
+    requires supply { Supply (map E.components parts.now) }
     requires some { 1 ≤ length parts.now }
     requires few { length parts.now ≤ 16 }
-    ensures { result ≡ full_mask count reaches splits event (entry_of entry.now) (map components parts.now) }
+    ensures { result ≡ full_mask E.count E.reaches splits event (entry_of entry.now) (map E.components parts.now) }
 {
     if !entry.action.active {
         return 0;
@@ -121,9 +121,9 @@ pub(crate) fn full_masks<R: Rulebook, E: Effect>(
     event: Option<usize>,
 ) -> [u16; 32]
     requires laid { map entry_of entries.now ≡ entries_of (content sheet.now) }
-    requires supplied { Supplied (content sheet.now) (map components effects.now) }
-    requires chosen { event ≡ chosen_event count reaches (content sheet.now) (meaning book.now) (map components effects.now) }
-    ensures { result ≡ (with_chosen count reaches (content sheet.now) (meaning book.now) (map components effects.now) 0 None 4095).masks }
+    requires supplied { Supplied (content sheet.now) (map E.components effects.now) }
+    requires chosen { event ≡ chosen_event E.count E.reaches (content sheet.now) (R.meaning book.now) (map E.components effects.now) }
+    ensures { result ≡ (with_chosen E.count E.reaches (content sheet.now) (R.meaning book.now) (map E.components effects.now) 0 None 4095).masks }
 {
     let _ = sheet;
     let splits = book.splits();

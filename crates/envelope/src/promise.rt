@@ -16,8 +16,8 @@ pub fn answer_keeps_the_promise<R: Rulebook, E: Effect>(
     effects: &[E],
     room: usize,
 )
-    ensures reported { AsReported count reaches (content sheet.now.sheet) (meaning book.now) (map components effects.now) (answer count reaches (content sheet.now.sheet) (meaning book.now) (map components effects.now) room) }
-    ensures greatest { NothingOutranks count reaches (content sheet.now.sheet) (meaning book.now) (map components effects.now) (answer count reaches (content sheet.now.sheet) (meaning book.now) (map components effects.now) room) }
-    ensures sound { BreaksNoRule count reaches (content sheet.now.sheet) (meaning book.now) (map components effects.now) (answer count reaches (content sheet.now.sheet) (meaning book.now) (map components effects.now) room) }
-    ensures kept { NeverSinks components count reaches (content sheet.now.sheet) (meaning book.now) effects.now (answer count reaches (content sheet.now.sheet) (meaning book.now) (map components effects.now) room) }
+    ensures reported { AsReported E.count E.reaches (content sheet.now.sheet) (R.meaning book.now) (map E.components effects.now) (answer E.count E.reaches (content sheet.now.sheet) (R.meaning book.now) (map E.components effects.now) room) }
+    ensures greatest { NothingOutranks E.count E.reaches (content sheet.now.sheet) (R.meaning book.now) (map E.components effects.now) (answer E.count E.reaches (content sheet.now.sheet) (R.meaning book.now) (map E.components effects.now) room) }
+    ensures sound { BreaksNoRule E.count E.reaches (content sheet.now.sheet) (R.meaning book.now) (map E.components effects.now) (answer E.count E.reaches (content sheet.now.sheet) (R.meaning book.now) (map E.components effects.now) room) }
+    ensures kept { NeverSinks E.components E.count E.reaches (content sheet.now.sheet) (R.meaning book.now) effects.now (answer E.count E.reaches (content sheet.now.sheet) (R.meaning book.now) (map E.components effects.now) room) }
 {}

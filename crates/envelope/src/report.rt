@@ -69,16 +69,16 @@ fn best_in_form<R: Rulebook, E: Effect>(
     strip: &mut [E],
 ) -> Candidate<E>
     requires laid { map entry_of entries.now ≡ entries_of (content sheet.now) }
-    requires supplied { Supplied (content sheet.now) (map components effects.now) }
-    requires full { masks.now ≡ (with_chosen count reaches (content sheet.now) (meaning book.now) (map components effects.now) 0 None 4095).masks }
+    requires supplied { Supplied (content sheet.now) (map E.components effects.now) }
+    requires full { masks.now ≡ (with_chosen E.count E.reaches (content sheet.now) (R.meaning book.now) (map E.components effects.now) 0 None 4095).masks }
     requires placed { roster.now ≡ roster_by masks.now (content sheet.now) }
-    requires one { form < (meaning book.now).forms }
-    requires hand { event_at_hand (event_kind (meaning book.now).situation) (content sheet.now) ≡ true }
+    requires one { form < (R.meaning book.now).forms }
+    requires hand { event_at_hand (event_kind (R.meaning book.now).situation) (content sheet.now) ≡ true }
     requires long { 24 ≤ length strip.old }
     ensures form { result.form ≡ form }
-    ensures best { BestAmong count reaches (content sheet.now) (meaning book.now) (map components effects.now) (λ f. f ≡ form) (with_chosen count reaches (content sheet.now) (meaning book.now) (map components effects.now) form result.leader result.set) }
-    ensures effect { components result.effect ≡ effect_of count (content sheet.now) (meaning book.now) (map components effects.now) (with_chosen count reaches (content sheet.now) (meaning book.now) (map components effects.now) form result.leader result.set) }
-    ensures halves { map components strip.new ≡ both_halves count (map components effects.now) masks.now ((meaning book.now).form form) (content sheet.now) ++ drop 24 (map components strip.old) }
+    ensures best { BestAmong E.count E.reaches (content sheet.now) (R.meaning book.now) (map E.components effects.now) (λ f. f ≡ form) (with_chosen E.count E.reaches (content sheet.now) (R.meaning book.now) (map E.components effects.now) form result.leader result.set) }
+    ensures effect { E.components result.effect ≡ effect_of E.count (content sheet.now) (R.meaning book.now) (map E.components effects.now) (with_chosen E.count E.reaches (content sheet.now) (R.meaning book.now) (map E.components effects.now) form result.leader result.set) }
+    ensures halves { map E.components strip.new ≡ both_halves E.count (map E.components effects.now) masks.now ((R.meaning book.now).form form) (content sheet.now) ++ drop 24 (map E.components strip.old) }
     ensures rest { drop 24 strip.new ≡ drop 24 strip.old }
 {
     fill_strip(strip, sheet, entries, masks, effects, book, form);
@@ -104,14 +104,14 @@ fn best_combination<R: Rulebook, E: Effect>(
     strip: &mut [E],
 ) -> Candidate<E>
     requires laid { map entry_of entries.now ≡ entries_of (content sheet.now) }
-    requires supplied { Supplied (content sheet.now) (map components effects.now) }
-    requires full { masks.now ≡ (with_chosen count reaches (content sheet.now) (meaning book.now) (map components effects.now) 0 None 4095).masks }
+    requires supplied { Supplied (content sheet.now) (map E.components effects.now) }
+    requires full { masks.now ≡ (with_chosen E.count E.reaches (content sheet.now) (R.meaning book.now) (map E.components effects.now) 0 None 4095).masks }
     requires placed { roster.now ≡ roster_by masks.now (content sheet.now) }
-    requires hand { event_at_hand (event_kind (meaning book.now).situation) (content sheet.now) ≡ true }
+    requires hand { event_at_hand (event_kind (R.meaning book.now).situation) (content sheet.now) ≡ true }
     requires long { 24 ≤ length strip.old }
-    ensures best { BestAmong count reaches (content sheet.now) (meaning book.now) (map components effects.now) (λ f. f < (meaning book.now).forms) (with_chosen count reaches (content sheet.now) (meaning book.now) (map components effects.now) result.form result.leader result.set) }
-    ensures effect { components result.effect ≡ effect_of count (content sheet.now) (meaning book.now) (map components effects.now) (with_chosen count reaches (content sheet.now) (meaning book.now) (map components effects.now) result.form result.leader result.set) }
-    ensures halves { map components strip.new ≡ both_halves count (map components effects.now) masks.now ((meaning book.now).form ((meaning book.now).forms - 1)) (content sheet.now) ++ drop 24 (map components strip.old) }
+    ensures best { BestAmong E.count E.reaches (content sheet.now) (R.meaning book.now) (map E.components effects.now) (λ f. f < (R.meaning book.now).forms) (with_chosen E.count E.reaches (content sheet.now) (R.meaning book.now) (map E.components effects.now) result.form result.leader result.set) }
+    ensures effect { E.components result.effect ≡ effect_of E.count (content sheet.now) (R.meaning book.now) (map E.components effects.now) (with_chosen E.count E.reaches (content sheet.now) (R.meaning book.now) (map E.components effects.now) result.form result.leader result.set) }
+    ensures halves { map E.components strip.new ≡ both_halves E.count (map E.components effects.now) masks.now ((R.meaning book.now).form ((R.meaning book.now).forms - 1)) (content sheet.now) ++ drop 24 (map E.components strip.old) }
     ensures rest { drop 24 strip.new ≡ drop 24 strip.old }
 {
     let mut best = best_in_form(sheet, entries, effects, masks, roster, book, 0, strip);
@@ -142,12 +142,12 @@ pub(crate) fn report<R: Rulebook, E: Effect>(
     effects: &[E],
     strip: &mut [E],
 ) -> Extreme<E>
-    requires supplied { Supplied (content sheet.now) (map components effects.now) }
-    requires hand { event_at_hand (event_kind (meaning book.now).situation) (content sheet.now) ≡ true }
+    requires supplied { Supplied (content sheet.now) (map E.components effects.now) }
+    requires hand { event_at_hand (event_kind (R.meaning book.now).situation) (content sheet.now) ≡ true }
     requires long { 24 ≤ length strip.old }
-    ensures reported { Reported count reaches (content sheet.now) (meaning book.now) (map components effects.now) result.combination }
-    ensures effect { components result.effect ≡ effect_of count (content sheet.now) (meaning book.now) (map components effects.now) result.combination }
-    ensures filled { map components strip.new ≡ strip_after count reaches (content sheet.now) (meaning book.now) (map components effects.now) ++ drop 24 (map components strip.old) }
+    ensures reported { Reported E.count E.reaches (content sheet.now) (R.meaning book.now) (map E.components effects.now) result.combination }
+    ensures effect { E.components result.effect ≡ effect_of E.count (content sheet.now) (R.meaning book.now) (map E.components effects.now) result.combination }
+    ensures filled { map E.components strip.new ≡ strip_after E.count E.reaches (content sheet.now) (R.meaning book.now) (map E.components effects.now) ++ drop 24 (map E.components strip.old) }
     ensures rest { drop 24 strip.new ≡ drop 24 strip.old }
 {
     let slots = laid_out(sheet);

@@ -26,7 +26,7 @@ pub(crate) enum Role {
 
 // The factor of a category in a role, zero for a leader where the form has none.
 fn factor_of<R: Rulebook>(book: &R, form: u8, role: Role, category: Option<Category>) -> Factor
-    ensures { result.units ≡ role_factor ((meaning book.now).form form) role category }
+    ensures { result.units ≡ role_factor ((R.meaning book.now).form form) role category }
 {
     let Some(category) = category else {
         return Factor::ZERO;
@@ -40,7 +40,7 @@ fn factor_of<R: Rulebook>(book: &R, form: u8, role: Role, category: Option<Categ
 
 // Writes zero to every place of a half.
 fn clear_half<E: Effect>(half: &mut [E])
-    ensures { map components half.new ≡ replicate (length half.old) (zeros count) }
+    ensures { map E.components half.new ≡ replicate (length half.old) (zeros E.count) }
 {
     for effect in half.iter_mut() {
         *effect = E::zero();
@@ -62,8 +62,8 @@ pub(crate) fn fill<R: Rulebook, E: Effect>(
     requires listed { map entry_of entries.now ≡ entries_of (content sheet.now) }
     requires masked { length masks.now ≡ 32 }
     requires complete { length effects.now ≡ parts_in (content sheet.now).actions }
-    requires small { All (λ xs. size xs ≤ 1_000_000_000) (map components effects.now) }
-    ensures { map components half.new ≡ role_half count (map components effects.now) masks.now ((meaning book.now).form form) role (content sheet.now) }
+    requires small { All (λ xs. size xs ≤ 1_000_000_000) (map E.components effects.now) }
+    ensures { map E.components half.new ≡ role_half E.count (map E.components effects.now) masks.now ((R.meaning book.now).form form) role (content sheet.now) }
 {
     let _ = sheet;
     clear_half(half);
@@ -90,8 +90,8 @@ pub(crate) fn fill_strip<R: Rulebook, E: Effect>(
     requires listed { map entry_of entries.now ≡ entries_of (content sheet.now) }
     requires masked { length masks.now ≡ 32 }
     requires complete { length effects.now ≡ parts_in (content sheet.now).actions }
-    requires small { All (λ xs. size xs ≤ 1_000_000_000) (map components effects.now) }
-    ensures halves { map components strip.new ≡ both_halves count (map components effects.now) masks.now ((meaning book.now).form form) (content sheet.now) ++ drop 24 (map components strip.old) }
+    requires small { All (λ xs. size xs ≤ 1_000_000_000) (map E.components effects.now) }
+    ensures halves { map E.components strip.new ≡ both_halves E.count (map E.components effects.now) masks.now ((R.meaning book.now).form form) (content sheet.now) ++ drop 24 (map E.components strip.old) }
     ensures rest { drop 24 strip.new ≡ drop 24 strip.old }
 {
     fill(

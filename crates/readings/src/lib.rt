@@ -1,4 +1,6 @@
 // Readings of a solver: binary64 numbers, read as the nearest whole numbers.
+#![tactic(auto)]
+
 pub mod list;
 pub mod number;
 #[cfg(test)]

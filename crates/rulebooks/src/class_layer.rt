@@ -42,7 +42,7 @@ impl<R: Rulebook> ClassLayer<R> {
     // The class over a rulebook.
     pub fn over(class: Class, below: R) -> ClassLayer<R>
         ensures made { (result.class ≡ class) × (result.below ≡ below) }
-        ensures alone { ClassLeavesAlone (meaning below) (classed class (meaning below)) }
+        ensures alone { ClassLeavesAlone (R.meaning below) (classed class (R.meaning below)) }
         ensures geo { GeoUnderRc1 }
     {
         ClassLayer { class, below }

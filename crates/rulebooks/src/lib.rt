@@ -1,4 +1,6 @@
 // Rulebooks: the factors of EN 1990 with Annex A1, and layers over any rulebook.
+#![tactic(auto)]
+
 pub mod class_layer;
 pub mod constant;
 pub mod event;

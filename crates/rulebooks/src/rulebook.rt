@@ -66,8 +66,8 @@ pub trait Rulebook {
 
 // The situation of a rulebook. Every rulebook, and so every pile of layers, keeps the laws.
 pub fn situation_of<R: Rulebook>(rules: &R) -> Situation
-    ensures value { result ≡ (meaning rules.now).situation }
-    ensures laws { BookLaws (meaning rules.now) }
+    ensures value { result ≡ (R.meaning rules.now).situation }
+    ensures laws { BookLaws (R.meaning rules.now) }
 {
     let _ = rules;
     R::SITUATION.get()
@@ -75,7 +75,7 @@ pub fn situation_of<R: Rulebook>(rules: &R) -> Situation
 
 // The number of forms of a rulebook: 1 or 2.
 pub fn forms_of<R: Rulebook>(rules: &R) -> u8
-    ensures { result ≡ (meaning rules.now).forms }
+    ensures { result ≡ (R.meaning rules.now).forms }
 {
     let _ = rules;
     R::FORMS.get()

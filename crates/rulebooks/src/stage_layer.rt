@@ -18,7 +18,7 @@ impl<R: Rulebook> StageLayer<R> {
     // The stage over a rulebook.
     pub fn over(struck: Category, below: R) -> StageLayer<R>
         ensures made { (result.struck ≡ struck) × (result.below ≡ below) }
-        ensures alone { StageLeavesAlone struck (meaning below) (staged struck (meaning below)) }
+        ensures alone { StageLeavesAlone struck (R.meaning below) (staged struck (R.meaning below)) }
     {
         StageLayer { struck, below }
     }

@@ -4,8 +4,8 @@ use Rattle.std.proofs.lemmas.Int.{ints}
 use Rattle.effects.specs.Numbers.{product_fits}
 use Rattle.effects.proofs.component.component_multiple.Goals as goal
 
-pub overflow-mul-factor : goal.overflow-mul-factor
-overflow-mul-factor c =
+pub overflow_mul-factor : goal.overflow_mul-factor
+overflow_mul-factor c =
     let ff : c.args.factor < 2 ^ 32 = search rules in
     let e : to_z w128 c.args.factor ≡ pos c.args.factor = omega (arith, ints) in
     let d : to_z w128 (of_z w128 (to_z w64 (of_z w64 c.args.a))) ≡ c.args.a = omega (arith, ints) in

@@ -22,8 +22,8 @@ set_of g sheet book es supplied =
 pub loop-entry-init : goal.loop-entry-init
 loop-entry-init g c = c.zero-total.ensures
 
-pub offset-bounds-masks-entry : goal.offset-bounds-masks-entry
-offset-bounds-masks-entry g c =
+pub offset_bounds-masks-entry : goal.offset_bounds-masks-entry
+offset_bounds-masks-entry g c =
     let h : (get_or c.args.entries.now c.loop-entry.entry-index nowhere).number < 32 =
     turn_within (content c.args.sheet.now) c.args.entries.now c.loop-entry.entry-index c.requires.laid c.args.sheet.now.limited.1 c.loop-entry-test.true in
     search rules
@@ -33,13 +33,13 @@ bounds-masks-entry g c =
     let met = g.met.E.Effect in
     mask_within met.closed met.laws _ _ _ (set_of g c.args.sheet.now c.args.book.now c.args.effects.now c.requires.supplied) c.args.form c.args.entries.now c.loop-entry.entry-index c.args.masks.now c.requires.laid c.loop-entry-test.true c.requires.full
 
-pub parts-of-requires : goal.parts-of-requires
-parts-of-requires g c =
+pub parts_of-requires : goal.parts_of-requires
+parts_of-requires g c =
     let e = g.E.Effect in
     (at_turn e.components (content c.args.sheet.now) c.args.effects.now c.args.sheet.now.formed c.requires.supplied c.args.entries.now c.loop-entry.entry-index c.requires.laid c.loop-entry-test.true).within
 
-pub share-of-share-requires : goal.share-of-share-requires
-share-of-share-requires g c =
+pub share_of-share-requires : goal.share_of-share-requires
+share_of-share-requires g c =
     let e = g.E.Effect in
     let hand = at_turn e.components (content c.args.sheet.now) c.args.effects.now c.args.sheet.now.formed c.requires.supplied c.args.entries.now c.loop-entry.entry-index c.requires.laid c.loop-entry-test.true in
     let own = lent e.components c.args.effects.now _ c.parts_of.result.now hand c.parts_of.ensures in
@@ -54,7 +54,7 @@ loop-entry-preserved g c =
     let set = set_of g c.args.sheet.now c.args.book.now c.args.effects.now c.requires.supplied in
     let hand = at_turn e.components (content c.args.sheet.now) c.args.effects.now c.args.sheet.now.formed c.requires.supplied list i c.requires.laid c.loop-entry-test.true in
     let own = ap (map e.components) c.parts_of.ensures ∙ hand.same in
-    let adds = share_read met.closed met.laws _ _ _ set c.args.form c.parts_of.result.now list i c.args.masks.now _ c.requires.laid c.loop-entry-test.true c.requires.full own c.share-of-share.ensures in
+    let adds = share_read met.closed met.laws _ _ _ set c.args.form c.parts_of.result.now list i c.args.masks.now _ c.requires.laid c.loop-entry-test.true c.requires.full own c.share_of-share.ensures in
     share_added met.closed met.laws _ _ _ set c.args.form list i _ _ _ c.requires.laid c.loop-entry-test.true c.loop-entry.invariant adds c.sum-total.ensures
 
 pub returns : goal.returns

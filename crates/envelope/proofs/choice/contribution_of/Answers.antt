@@ -4,4 +4,4 @@ use Rattle.envelope.proofs.choice.contribution_of.Goals as goal
 pub returns : goal.returns
 returns g c =
     let met = g.met.E.Effect in
-    held_times met.closed met.laws c.args.parts.now c.requires.supply c.args.mask c.args.factor.units _ _ c.args.factor.bounded c.sums-by-held.ensures.inside c.times.ensures
+    held_times met.closed met.laws c.args.parts.now c.requires.supply c.args.mask c.args.factor.units _ _ c.args.factor.bounded c.sums_by-held.ensures.inside c.times.ensures

@@ -4,17 +4,17 @@ use Rattle.envelope.proofs.PartMasks.{greatest_place, alternative_event, whole_e
 use Rattle.envelope.proofs.choice.event_choice.Goals as goal
 
 -- the greatest part has a place in the mask
-place : (g : _) (c : goal.After-greatest-part g) → c.greatest_part.result < 16
+place : (g : _) (c : goal.After-greatest_part g) → c.greatest_part.result < 16
 place g c =
     let e = g.E.Effect in
     let parts = c.args.parts.now in
     omega (arith, c.greatest_part.ensures.value, greatest_place e.count e.reaches (map e.components parts) (omega (arith, length-map parts e.components)))
 
-pub overflow-cast-result : goal.overflow-cast-result
-overflow-cast-result g c = let h = place g c in search rules
+pub overflow_cast-result : goal.overflow_cast-result
+overflow_cast-result g c = let h = place g c in search rules
 
-pub overflow-shl-result : goal.overflow-shl-result
-overflow-shl-result g c = let h = place g c in search rules
+pub overflow_shl-result : goal.overflow_shl-result
+overflow_shl-result g c = let h = place g c in search rules
 
 pub returns-in-Fixed : goal.returns-in-Fixed
 returns-in-Fixed g c =

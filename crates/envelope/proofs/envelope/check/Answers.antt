@@ -41,8 +41,8 @@ returns-in-Some g c =
     let bl = laws_of b (law.some c.args.book.now) (law.permanent c.args.book.now) (law.variable c.args.book.now) (law.uppers c.args.book.now) (law.prestresses c.args.book.now) (law.leadings c.args.book.now) in
     answer_12 met.closed met.laws (content sheet) b es so bl c.args.room c.in-Some.part (length-map es g.E.Effect.components ∙ c.if-effects-parts.false ∙ c.parts.ensures) c.if-room-lt-STRIP.false (sym c.in-Some.ensures)
 
-pub returns-then-not-is-at-hand : goal.returns-then-not-is-at-hand
-returns-then-not-is-at-hand g c =
+pub returns-then-not-is_at_hand : goal.returns-then-not-is_at_hand
+returns-then-not-is_at_hand g c =
     let met = g.met.E.Effect in
     let sheet = c.args.sheet.now in
     let b : Book = g.R.Rulebook.meaning c.args.book.now in
@@ -50,7 +50,7 @@ returns-then-not-is-at-hand g c =
     let es = c.args.effects.now in
     let so = sound_of _ (content sheet).actions sheet.limited sheet.formed in
     let bl = laws_of b (law.some c.args.book.now) (law.permanent c.args.book.now) (law.variable c.args.book.now) (law.uppers c.args.book.now) (law.prestresses c.args.book.now) (law.leadings c.args.book.now) in
-    answer_13 met.closed met.laws (content sheet) b es so bl c.args.room (length-map es g.E.Effect.components ∙ c.if-effects-parts.false ∙ c.parts.ensures) c.if-room-lt-STRIP.false (sym c.in-default.ensures) (sym (c.is-at-hand.ensures ∙ ap (λ k. event_at_hand k (content sheet)) (c.event_kind.ensures ∙ ap event_kind c.situation-of.ensures.value)) ∙ c.if-not-is-at-hand.true)
+    answer_13 met.closed met.laws (content sheet) b es so bl c.args.room (length-map es g.E.Effect.components ∙ c.if-effects-parts.false ∙ c.parts.ensures) c.if-room-lt-STRIP.false (sym c.in_default.ensures) (sym (c.is_at_hand.ensures ∙ ap (λ k. event_at_hand k (content sheet)) (c.event_kind.ensures ∙ ap event_kind c.situation_of.ensures.value)) ∙ c.if-not-is_at_hand.true)
 
 pub returns : goal.returns
 returns g c =
@@ -59,6 +59,6 @@ returns g c =
     record {
       complete = length-map es g.E.Effect.components ∙ c.if-effects-parts.false ∙ c.parts.ensures;
       long = c.if-room-lt-STRIP.false;
-      small = sym c.in-default.ensures;
-      hand = sym (c.is-at-hand.ensures ∙ ap (λ k. event_at_hand k (content sheet)) (c.event_kind.ensures ∙ ap event_kind c.situation-of.ensures.value)) ∙ c.if-not-is-at-hand.false;
+      small = sym c.in_default.ensures;
+      hand = sym (c.is_at_hand.ensures ∙ ap (λ k. event_at_hand k (content sheet)) (c.event_kind.ensures ∙ ap event_kind c.situation_of.ensures.value)) ∙ c.if-not-is_at_hand.false;
     }

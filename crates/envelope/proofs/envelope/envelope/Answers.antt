@@ -9,8 +9,8 @@ use Rattle.envelope.proofs.Ground.{sound_of, laws_of}
 use Rattle.envelope.proofs.Kept.{run_law, promised_refusal, promised_answer, supplied_so}
 use Rattle.envelope.proofs.envelope.envelope.Goals as goal
 
-pub returns-in-err-check : goal.returns-in-err-check
-returns-in-err-check g c =
+pub returns-in_err-check : goal.returns-in_err-check
+returns-in_err-check g c =
     let met = g.met.E.Effect in
     let e = g.E.Effect in
     let sheet = c.sheet-sheet.result.now in
@@ -20,11 +20,11 @@ returns-in-err-check g c =
     let so = sound_of _ (content sheet).actions sheet.limited sheet.formed in
     let bl = laws_of b (law.some c.args.book.now) (law.permanent c.args.book.now) (law.variable c.args.book.now) (law.uppers c.args.book.now) (law.prestresses c.args.book.now) (law.leadings c.args.book.now) in
     let p = err_from_is_err_and c.from-residual.result c.from-residual.ensures.1 in
-    let q = c.in-err-check.field-0.0 in
+    let q = c.in_err-check.field-0.0 in
     let strip = c.args.strip.now in
     rw (p.1, p.2) (record {
       promise = subst (λ (s : Sheet). WholePromise e.components e.count e.reaches (content s) b es strip strip (reply_of e.components (Err q))) c.sheet-sheet.ensures.same
-          (promised_refusal met.closed met.laws b bl (content sheet) es so strip q c.in-err-check.ensures);
+          (promised_refusal met.closed met.laws b bl (content sheet) es so strip q c.in_err-check.ensures);
       runs = run_law met.closed met.laws b bl;
     })
 
@@ -38,7 +38,7 @@ report-requires g c =
     let es = c.args.effects.now in
     let so = sound_of _ (content sheet).actions sheet.limited sheet.formed in
     let bl = laws_of b (law.some c.args.book.now) (law.permanent c.args.book.now) (law.variable c.args.book.now) (law.uppers c.args.book.now) (law.prestresses c.args.book.now) (law.leadings c.args.book.now) in
-    let a = c.in-ok-check.ensures in
+    let a = c.in_ok-check.ensures in
     record { supplied = supplied_so met.closed met.laws b bl (content sheet) es so _ a; hand = a.hand; long = a.long }
 
 pub returns : goal.returns
@@ -57,6 +57,6 @@ returns g c =
     let y = c.report.result.combination in
     record {
       promise = subst (λ (s : Sheet). WholePromise e.components e.count e.reaches (content s) b es before after (found (e.components x) y)) c.sheet-sheet.ensures.same
-          (promised_answer met.closed met.laws b bl (content sheet) es so before after x y c.in-ok-check.ensures c.report.ensures.reported c.report.ensures.effect c.report.ensures.filled c.report.ensures.rest);
+          (promised_answer met.closed met.laws b bl (content sheet) es so before after x y c.in_ok-check.ensures c.report.ensures.reported c.report.ensures.effect c.report.ensures.filled c.report.ensures.rest);
       runs = run_law met.closed met.laws b bl;
     }

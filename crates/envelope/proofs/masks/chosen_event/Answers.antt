@@ -8,13 +8,13 @@ use Rattle.envelope.proofs.masks.chosen_event.Goals.{then-acts, else-acts}
 pub loop-entry-init : goal.loop-entry-init
 loop-entry-init g c = refl
 
-pub parts-of-requires : goal.parts-of-requires
-parts-of-requires g c =
+pub parts_of-requires : goal.parts_of-requires
+parts_of-requires g c =
     let e = g.E.Effect in
     (at_turn e.components (content c.args.sheet.now) c.args.effects.now c.args.sheet.now.formed c.requires.supplied c.args.entries.now c.loop-entry.entry-index c.requires.laid c.loop-entry-test.true).within
 
-pub event-effect-effect-requires : goal.event-effect-effect-requires
-event-effect-effect-requires g c =
+pub event_effect-effect-requires : goal.event_effect-effect-requires
+event_effect-effect-requires g c =
     let e = g.E.Effect in
     let hand = at_turn e.components (content c.args.sheet.now) c.args.effects.now c.args.sheet.now.formed c.requires.supplied c.args.entries.now c.loop-entry.entry-index c.requires.laid c.loop-entry-test.true in
     let own = lent e.components c.args.effects.now _ c.parts_of.result.now hand c.parts_of.ensures in
@@ -28,7 +28,7 @@ loop-entry-preserved g c =
     elim c.if-acts.branch [
       | then-acts w ↦
           event_taken e.components e.count e.reaches c.in-Some.sought c.args.effects.now c.args.entries.now loop.entry-index c.loop-entry-test.true loop.best c.if-acts.best _ loop.invariant
-          w.event-effect-effect.result w.parts_of.result.now w.greater.result (sym c.acts.ensures ∙ w.if-acts.true) hand w.parts_of.ensures w.event-effect-effect.ensures w.greater.ensures w.best-is
+          w.event_effect-effect.result w.parts_of.result.now w.greater.result (sym c.acts.ensures ∙ w.if-acts.true) hand w.parts_of.ensures w.event_effect-effect.ensures w.greater.ensures w.best-is
       | else-acts w ↦
           event_passed e.components e.count e.reaches c.in-Some.sought c.args.effects.now c.args.entries.now loop.entry-index c.loop-entry-test.true loop.best c.if-acts.best _ loop.invariant
           (sym c.acts.ensures ∙ w.if-acts.false) w.best-is

@@ -10,20 +10,20 @@ use Rattle.envelope.proofs.masks.full_masks.Goals as goal
 pub loop-entry-init : goal.loop-entry-init
 loop-entry-init g c = refl
 
-pub parts-of-requires : goal.parts-of-requires
-parts-of-requires g c =
+pub parts_of-requires : goal.parts_of-requires
+parts_of-requires g c =
     let e = g.E.Effect in
     (at_turn e.components (content c.args.sheet.now) c.args.effects.now c.args.sheet.now.formed c.requires.supplied c.args.entries.now c.loop-entry.entry-index c.requires.laid c.loop-entry-test.true).within
 
-pub mask-of-requires : goal.mask-of-requires
-mask-of-requires g c =
+pub mask_of-requires : goal.mask_of-requires
+mask_of-requires g c =
     let e = g.E.Effect in
     let hand = at_turn e.components (content c.args.sheet.now) c.args.effects.now c.args.sheet.now.formed c.requires.supplied c.args.entries.now c.loop-entry.entry-index c.requires.laid c.loop-entry-test.true in
     let own = lent e.components c.args.effects.now _ c.parts_of.result.now hand c.parts_of.ensures in
     record { supply = own.supply; some = own.some; few = own.few }
 
-pub offset-bounds-masks-entry : goal.offset-bounds-masks-entry
-offset-bounds-masks-entry g c =
+pub offset_bounds-masks-entry : goal.offset_bounds-masks-entry
+offset_bounds-masks-entry g c =
     let h : (get_or c.args.entries.now c.loop-entry.entry-index nowhere).number < 32 =
     turn_within (content c.args.sheet.now) c.args.entries.now c.loop-entry.entry-index c.requires.laid c.args.sheet.now.limited.1 c.loop-entry-test.true in
     search rules

@@ -12,7 +12,7 @@ use Rattle.envelope.proofs.Ground.{sound_of, laws_of, grounded}
 use Rattle.envelope.proofs.Forms.{Found, found_first, found_keeps, found_takes, rest_same}
 use Rattle.envelope.proofs.report.best_combination.Given as given
 use Rattle.envelope.proofs.report.best_combination.Goals as goal
-use Rattle.envelope.proofs.report.best_combination.Goals.{then-not-at-or-above, else-not-at-or-above}
+use Rattle.envelope.proofs.report.best_combination.Goals.{then-not-at_or_above, else-not-at_or_above}
 
 -- the sheet with its effects and the rulebook
 set_of : (g : given.Over) (sheet : Sheet) (book : g.row.R.Denot) (es : List g.row.E.Denot) → Supplied (content sheet) (map g.E.Effect.components es)
@@ -23,8 +23,8 @@ set_of g sheet book es supplied =
     grounded g.met.E.Effect.closed g.met.E.Effect.laws (content sheet) b es (sound_of _ (content sheet).actions sheet.limited sheet.formed)
     (laws_of b (law.some book) (law.permanent book) (law.variable book) (law.uppers book) (law.prestresses book) (law.leadings book)) supplied
 
-pub best-in-form-best-requires : goal.best-in-form-best-requires
-best-in-form-best-requires g c = record {
+pub best_in_form-best-requires : goal.best_in_form-best-requires
+best_in_form-best-requires g c = record {
   laid = c.requires.laid;
   supplied = c.requires.supplied;
   full = c.requires.full;
@@ -38,20 +38,20 @@ pub loop-form-init : goal.loop-form-init
 loop-form-init g c =
     let met = g.met.E.Effect in
     let e = g.E.Effect in
-    let best = c.best-in-form-best in
+    let best = c.best_in_form-best in
     let set = set_of g c.args.sheet.now c.args.book.now c.args.effects.now c.requires.supplied in
     let h = found_first met.closed met.laws _ _ _ set best.result.form best.result.leader best.result.set (e.components best.result.effect) best.ensures.form (best.ensures.best, best.ensures.effect) in
     (h.0, h.1, best.ensures.halves ∙ ap (λ r. both_halves e.count (map e.components c.args.effects.now) c.args.masks.now ((g.R.Rulebook.meaning c.args.book.now).form 0) (content c.args.sheet.now) ++ r) (sym (rest_same e.components best.new.strip c.args.strip.now best.ensures.rest)), refl)
 
-pub best-in-form-other-requires : goal.best-in-form-other-requires
-best-in-form-other-requires g c = record {
+pub best_in_form-other-requires : goal.best_in_form-other-requires
+best_in_form-other-requires g c = record {
   laid = c.requires.laid;
   supplied = c.requires.supplied;
   full = c.requires.full;
   placed = c.requires.placed;
-  one = omega (arith, c.forms-of-form-end.ensures, c.loop-form-test.true);
+  one = omega (arith, c.forms_of-form-end.ensures, c.loop-form-test.true);
   hand = c.requires.hand;
-  long = omega (arith, c.loop-form.auto.strip, c.best-in-form-best.auto.strip, c.requires.long);
+  long = omega (arith, c.loop-form.auto.strip, c.best_in_form-best.auto.strip, c.requires.long);
 }
 
 pub loop-form-preserved : goal.loop-form-preserved
@@ -63,23 +63,23 @@ loop-form-preserved g c =
     let xss = map e.components c.args.effects.now in
     let k = c.loop-form.form in
     let best = c.loop-form.best in
-    let other = c.best-in-form-other in
+    let other = c.best_in_form-other in
     let o = other.result in
     let set = set_of g c.args.sheet.now c.args.book.now c.args.effects.now c.requires.supplied in
     let inv = c.loop-form.invariant in
-    let begun = c.best-in-form-best.new.strip in
+    let begun = c.best_in_form-best.new.strip in
     let strip : map e.components other.new.strip ≡ both_halves e.count xss c.args.masks.now (b.form (k + 1 - 1)) s ++ drop 24 (map e.components begun) =
     other.ensures.halves
     ∙ ap (λ r. both_halves e.count xss c.args.masks.now (b.form k) s ++ r) (rest_same e.components c.loop-form.strip begun inv.3)
     ∙ ap (λ i. both_halves e.count xss c.args.masks.now (b.form i) s ++ drop 24 (map e.components begun)) (omega arith) in
     let rest = other.ensures.rest ∙ inv.3 in
-    elim c.if-not-at-or-above.branch [
-      | then-not-at-or-above w ↦
-          let h = found_takes met.closed met.laws s b xss set k best.form o.form best.leader o.leader best.set o.set (e.components best.effect) (e.components o.effect) (inv.0, inv.1) other.ensures.form (other.ensures.best, other.ensures.effect) w.if-not-at-or-above.ensures in
+    elim c.if-not-at_or_above.branch [
+      | then-not-at_or_above w ↦
+          let h = found_takes met.closed met.laws s b xss set k best.form o.form best.leader o.leader best.set o.set (e.components best.effect) (e.components o.effect) (inv.0, inv.1) other.ensures.form (other.ensures.best, other.ensures.effect) w.if-not-at_or_above.ensures in
           let t = subst (λ (d : Candidate g.row.E.Denot). Found met.closed met.laws s b xss set (λ f. f < k + 1) d.form d.leader d.set (e.components d.effect)) (sym w.best-is) h in
           (t.0, t.1, strip, rest)
-      | else-not-at-or-above w ↦
-          let h = found_keeps met.closed met.laws s b xss set k best.form o.form best.leader o.leader best.set o.set (e.components best.effect) (e.components o.effect) (inv.0, inv.1) other.ensures.form (other.ensures.best, other.ensures.effect) w.if-not-at-or-above.ensures in
+      | else-not-at_or_above w ↦
+          let h = found_keeps met.closed met.laws s b xss set k best.form o.form best.leader o.leader best.set o.set (e.components best.effect) (e.components o.effect) (inv.0, inv.1) other.ensures.form (other.ensures.best, other.ensures.effect) w.if-not-at_or_above.ensures in
           let t = subst (λ (d : Candidate g.row.E.Denot). Found met.closed met.laws s b xss set (λ f. f < k + 1) d.form d.leader d.set (e.components d.effect)) (sym w.best-is) h in
           (t.0, t.1, strip, rest)
     ]
@@ -91,14 +91,14 @@ returns g c =
     let b : Book = g.R.Rulebook.meaning c.args.book.now in
     let xss = map e.components c.args.effects.now in
     let inv = c.loop-form.invariant in
-    let begun = c.best-in-form-best.new.strip in
+    let begun = c.best_in_form-best.new.strip in
     let some = g.met.R.Rulebook.some c.args.book.now in
-    let ended : c.loop-form.form ≡ b.forms = omega (arith, c.forms-of-form-end.ensures, c.loop-form-test.false, c.loop-form.auto.form-end (omega (arith, c.forms-of-form-end.ensures, some))) in
+    let ended : c.loop-form.form ≡ b.forms = omega (arith, c.forms_of-form-end.ensures, c.loop-form-test.false, c.loop-form.auto.form-end (omega (arith, c.forms_of-form-end.ensures, some))) in
     record {
       best = subst (λ i. BestAmong e.count e.reaches s b xss (λ f. f < i) (with_chosen e.count e.reaches s b xss c.loop-form.best.form c.loop-form.best.leader c.loop-form.best.set)) ended inv.0;
       effect = inv.1;
       halves = inv.2
           ∙ ap (λ i. both_halves e.count xss c.args.masks.now (b.form (i - 1)) s ++ drop 24 (map e.components begun)) ended
-          ∙ ap (λ r. both_halves e.count xss c.args.masks.now (b.form (b.forms - 1)) s ++ r) (rest_same e.components begun c.args.strip.now c.best-in-form-best.ensures.rest);
-      rest = inv.3 ∙ c.best-in-form-best.ensures.rest;
+          ∙ ap (λ r. both_halves e.count xss c.args.masks.now (b.form (b.forms - 1)) s ++ r) (rest_same e.components begun c.args.strip.now c.best_in_form-best.ensures.rest);
+      rest = inv.3 ∙ c.best_in_form-best.ensures.rest;
     }

@@ -22,8 +22,8 @@ set_of g sheet book es supplied =
     grounded g.met.E.Effect.closed g.met.E.Effect.laws (content sheet) b es (sound_of _ (content sheet).actions sheet.limited sheet.formed)
     (laws_of b (law.some book) (law.permanent book) (law.variable book) (law.uppers book) (law.prestresses book) (law.leadings book)) supplied
 
-pub fill-strip-requires : goal.fill-strip-requires
-fill-strip-requires g c = record {
+pub fill_strip-requires : goal.fill_strip-requires
+fill_strip-requires g c = record {
   long = c.requires.long;
   listed = c.requires.laid;
   masked = ap length c.requires.full ∙ places_length 32 _ 0;
@@ -34,34 +34,34 @@ fill-strip-requires g c = record {
     sym_length : (es : List g.row.E.Denot) → length es ≡ length (map g.E.Effect.components es)
     sym_length es = mathlib.Core.Path.sym (length-map es g.E.Effect.components)
 
-pub best-set-peak-requires : goal.best-set-peak-requires
-best-set-peak-requires g c =
+pub best_set-peak-requires : goal.best_set-peak-requires
+best_set-peak-requires g c =
     let met = g.met.E.Effect in
     form_searchable met.closed met.laws (content c.args.sheet.now) (g.R.Rulebook.meaning c.args.book.now) (map g.E.Effect.components c.args.effects.now)
     (set_of g c.args.sheet.now c.args.book.now c.args.effects.now c.requires.supplied) c.args.sheet.now.limited.2 c.args.form
-    c.fill-strip.new.strip (drop 24 (map g.E.Effect.components c.args.strip.now)) c.args.masks.now c.args.roster.now c.has-leader-leads.result c.base-of-base.result
-    c.requires.full c.requires.placed c.fill-strip.ensures.halves c.has-leader-leads.ensures c.base-of-base.ensures
+    c.fill_strip.new.strip (drop 24 (map g.E.Effect.components c.args.strip.now)) c.args.masks.now c.args.roster.now c.has_leader-leads.result c.base_of-base.result
+    c.requires.full c.requires.placed c.fill_strip.ensures.halves c.has_leader-leads.ensures c.base_of-base.ensures
 
-pub leader-number-requires : goal.leader-number-requires
-leader-number-requires g c =
+pub leader_number-requires : goal.leader_number-requires
+leader_number-requires g c =
     let met = g.met.E.Effect in
     form_place met.closed met.laws (content c.args.sheet.now) (g.R.Rulebook.meaning c.args.book.now) (map g.E.Effect.components c.args.effects.now)
     (set_of g c.args.sheet.now c.args.book.now c.args.effects.now c.requires.supplied) c.args.sheet.now.limited.2 c.args.form
-    c.fill-strip.new.strip (drop 24 (map g.E.Effect.components c.args.strip.now)) c.args.masks.now c.args.roster.now c.has-leader-leads.result c.base-of-base.result
-    c.requires.full c.requires.placed c.fill-strip.ensures.halves c.has-leader-leads.ensures c.base-of-base.ensures c.best-set-peak.result.leader c.best-set-peak.ensures.best.may_lead
+    c.fill_strip.new.strip (drop 24 (map g.E.Effect.components c.args.strip.now)) c.args.masks.now c.args.roster.now c.has_leader-leads.result c.base_of-base.result
+    c.requires.full c.requires.placed c.fill_strip.ensures.halves c.has_leader-leads.ensures c.base_of-base.ensures c.best_set-peak.result.leader c.best_set-peak.ensures.best.may_lead
 
-pub set-number-requires : goal.set-number-requires
-set-number-requires g c =
+pub set_number-requires : goal.set_number-requires
+set_number-requires g c =
     let met = g.met.E.Effect in
     record {
       place = form_place met.closed met.laws (content c.args.sheet.now) (g.R.Rulebook.meaning c.args.book.now) (map g.E.Effect.components c.args.effects.now)
           (set_of g c.args.sheet.now c.args.book.now c.args.effects.now c.requires.supplied) c.args.sheet.now.limited.2 c.args.form
-          c.fill-strip.new.strip (drop 24 (map g.E.Effect.components c.args.strip.now)) c.args.masks.now c.args.roster.now c.has-leader-leads.result c.base-of-base.result
-          c.requires.full c.requires.placed c.fill-strip.ensures.halves c.has-leader-leads.ensures c.base-of-base.ensures c.best-set-peak.result.leader c.best-set-peak.ensures.best.may_lead;
+          c.fill_strip.new.strip (drop 24 (map g.E.Effect.components c.args.strip.now)) c.args.masks.now c.args.roster.now c.has_leader-leads.result c.base_of-base.result
+          c.requires.full c.requires.placed c.fill_strip.ensures.halves c.has_leader-leads.ensures c.base_of-base.ensures c.best_set-peak.result.leader c.best_set-peak.ensures.best.may_lead;
       set = form_set met.closed met.laws (content c.args.sheet.now) (g.R.Rulebook.meaning c.args.book.now) (map g.E.Effect.components c.args.effects.now)
           (set_of g c.args.sheet.now c.args.book.now c.args.effects.now c.requires.supplied) c.args.sheet.now.limited.2 c.args.form
-          c.fill-strip.new.strip (drop 24 (map g.E.Effect.components c.args.strip.now)) c.args.masks.now c.args.roster.now c.has-leader-leads.result c.base-of-base.result
-          c.requires.full c.requires.placed c.fill-strip.ensures.halves c.has-leader-leads.ensures c.base-of-base.ensures c.best-set-peak.result.set c.best-set-peak.ensures.best.numbered;
+          c.fill_strip.new.strip (drop 24 (map g.E.Effect.components c.args.strip.now)) c.args.masks.now c.args.roster.now c.has_leader-leads.result c.base_of-base.result
+          c.requires.full c.requires.placed c.fill_strip.ensures.halves c.has_leader-leads.ensures c.base_of-base.ensures c.best_set-peak.result.set c.best_set-peak.ensures.best.numbered;
     }
 
 pub returns : goal.returns
@@ -71,9 +71,9 @@ returns g c =
     let sound = sound_from (content sheet) sheet.limited sheet.formed sheet.paired (marks_symmetric sheet.marks) in
     let h = form_best met.closed met.laws (content sheet) (g.R.Rulebook.meaning c.args.book.now) (map g.E.Effect.components c.args.effects.now)
     (set_of g sheet c.args.book.now c.args.effects.now c.requires.supplied) sheet.limited.2 c.args.form
-    c.fill-strip.new.strip (drop 24 (map g.E.Effect.components c.args.strip.now)) c.args.masks.now c.args.roster.now c.has-leader-leads.result c.base-of-base.result
-    c.requires.full c.requires.placed c.fill-strip.ensures.halves c.has-leader-leads.ensures c.base-of-base.ensures
+    c.fill_strip.new.strip (drop 24 (map g.E.Effect.components c.args.strip.now)) c.args.masks.now c.args.roster.now c.has_leader-leads.result c.base_of-base.result
+    c.requires.full c.requires.placed c.fill_strip.ensures.halves c.has_leader-leads.ensures c.base_of-base.ensures
     c.requires.hand c.requires.one sound.symmetric sound.irreflexive
-    c.best-set-peak.result.leader c.leader-number.result c.best-set-peak.result.set c.set_number.result (g.E.Effect.components c.best-set-peak.result.effect)
-    c.best-set-peak.ensures.best c.best-set-peak.ensures.effect c.leader-number.ensures c.set_number.ensures in
-    record { form = refl; best = h.0; effect = h.1; halves = c.fill-strip.ensures.halves; rest = c.fill-strip.ensures.rest }
+    c.best_set-peak.result.leader c.leader_number.result c.best_set-peak.result.set c.set_number.result (g.E.Effect.components c.best_set-peak.result.effect)
+    c.best_set-peak.ensures.best c.best_set-peak.ensures.effect c.leader_number.ensures c.set_number.ensures in
+    record { form = refl; best = h.0; effect = h.1; halves = c.fill_strip.ensures.halves; rest = c.fill_strip.ensures.rest }

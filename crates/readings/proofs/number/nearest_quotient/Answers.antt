@@ -12,7 +12,7 @@ pub returns-then-rest-half-2 : goal.returns-then-rest-half-2
 returns-then-rest-half-2 c =
     let m = c.args.mantissa in
     let k = c.args.shift in
-    c.tie-of.ensures
+    c.tie_of.ensures
     ∙ sym (closer_half (m / 2 ^ k) (m % 2 ^ k) (2 ^ k) (omega (arith, rest-is m k c.requires.1 c.requires.2, half_is m k c.requires.1 c.requires.2)))
 
 pub returns-else-rest-half-2 : goal.returns-else-rest-half-2

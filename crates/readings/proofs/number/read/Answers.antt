@@ -3,7 +3,7 @@ use Rattle.readings.specs.Nearest.{read_of}
 use Rattle.readings.proofs.Nearness.{read_rounded}
 use Rattle.readings.proofs.number.read.Goals as goal
 
-pub returns-then-is-readable : goal.returns-then-is-readable
-returns-then-is-readable c =
-    let v : ◌≡◌ {A = Option ℤ} (Some (to_z w64 (of_z w64 c.nearest-whole.result))) (read_of c.args.x) = search rules in
+pub returns-then-is_readable : goal.returns-then-is_readable
+returns-then-is_readable c =
+    let v : ◌≡◌ {A = Option ℤ} (Some (to_z w64 (of_z w64 c.nearest_whole.result))) (read_of c.args.x) = search rules in
     record { value = v; rounded = λ z e. read_rounded c.args.x z (sym v ∙ e) }

@@ -8,13 +8,13 @@ use Rattle.sheet.proofs.plain.Sheet.blank.Goals as goal
 unmarked : (rows : List (List Bool)) → rows ≡ replicate 32 (replicate 32 false) → (a b : ℕ) → marked_in rows a b ≡ false
 unmarked rows e a b = ap (λ (t : List (List Bool)). marked_in t a b) e ∙ none_marked a b
 
-pub invariant-of-result : goal.invariant-of-result
-invariant-of-result c =
-    let v = c.in-ok-actions.actions in
-    let made = c.in-ok-actions.ensures in
+pub invariant_of-result : goal.invariant_of-result
+invariant_of-result c =
+    let v = c.in_ok-actions.actions in
+    let made = c.in_ok-actions.ensures in
     let L : List Action → Type 0 = λ xs. Limited (vec_capacity v) xs in
     let F : List Action → Type 0 = λ xs. Formed xs in
-    (subst L (sym made.items) (made.capacity, lit≤ tt, lit≤ tt, lit≤ tt), (subst F (sym made.items) (λ i h. absurd (omega arith)), ((λ a b m. absurd (true≢false (sym m ∙ unmarked c.no-marks.result c.no-marks.ensures a b))), tt)))
+    (subst L (sym made.items) (made.capacity, lit≤ tt, lit≤ tt, lit≤ tt), (subst F (sym made.items) (λ i h. absurd (omega arith)), ((λ a b m. absurd (true≢false (sym m ∙ unmarked c.no_marks.result c.no_marks.ensures a b))), tt)))
 
 pub returns : goal.returns
-returns c = same_content c.in-ok-actions.ensures.items (unmarked c.no-marks.result c.no-marks.ensures)
+returns c = same_content c.in_ok-actions.ensures.items (unmarked c.no_marks.result c.no_marks.ensures)

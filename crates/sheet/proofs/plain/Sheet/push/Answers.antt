@@ -5,22 +5,22 @@ use Rattle.sheet.specs.Limits.{Limited, Formed, Paired, marked_in}
 use Rattle.sheet.proofs.Keeping.{limited, formed_push, paired_push}
 use Rattle.sheet.proofs.plain.Sheet.push.Goals as goal
 
-pub push-reserved-requires : goal.push-reserved-requires
-push-reserved-requires c =
+pub push_reserved-requires : goal.push_reserved-requires
+push_reserved-requires c =
     let s = c.args.self.now in
     let xs = vec_items s.actions in
     let x = c.args.action in
     let k = limited (vec_capacity s.actions) (xs ++ x ∷ []) s.limited.0 c.requires.room in
     omega (arith, k.1, length_push xs x, s.actions.ok.0, s.limited.0)
 
-pub invariant-of-self : goal.invariant-of-self
-invariant-of-self c =
+pub invariant_of-self : goal.invariant_of-self
+invariant_of-self c =
     let s = c.args.self.now in
     let xs = vec_items s.actions in
     let x = c.args.action in
-    let after = c.push-reserved.new.self in
-    let items = sym c.push-reserved.ensures.items in
-    let room : 32 ≤ vec_capacity after = omega (arith, c.push-reserved.ensures.capacity, s.limited.0) in
+    let after = c.push_reserved.new.self in
+    let items = sym c.push_reserved.ensures.items in
+    let room : 32 ≤ vec_capacity after = omega (arith, c.push_reserved.ensures.capacity, s.limited.0) in
     let L : List Action → Type 0 = λ ys. Limited (vec_capacity after) ys in
     let F : List Action → Type 0 = λ ys. Formed ys in
     let P : List Action → Type 0 = λ ys. Paired ys (marked_in s.marks) in

@@ -6,8 +6,8 @@ use Rattle.sheet.specs.Calls.{switched}
 use Rattle.sheet.proofs.Keeping.{limited_set, formed_set, paired_set}
 use Rattle.sheet.proofs.plain.Sheet.set_active.Goals as goal
 
-pub invariant-of-self : goal.invariant-of-self
-invariant-of-self c =
+pub invariant_of-self : goal.invariant_of-self
+invariant_of-self c =
     let s = c.args.self.now in
     let xs = vec_items s.actions in
     let i = c.args.number in

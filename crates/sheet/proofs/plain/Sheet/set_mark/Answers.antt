@@ -12,8 +12,8 @@ marks_after rows a b low high row mark l h within below len written x y =
     let size : length (get_or rows (min a b) []) ≡ 32 = ap (λ (i : ℕ). length (get_or rows i [])) (sym l) ∙ len in
     ap (λ (t : List (List Bool)). marked_in t x y) moved ∙ mark_set rows a b mark (omega arith) (omega arith) x y
 
-pub invariant-of-self : goal.invariant-of-self
-invariant-of-self c =
+pub invariant_of-self : goal.invariant_of-self
+invariant_of-self c =
     let s = c.args.self.now in
     let xs = vec_items s.actions in
     let a = c.args.a in

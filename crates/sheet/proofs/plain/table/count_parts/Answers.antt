@@ -4,8 +4,8 @@ use Rattle.std.proofs.lemmas.List.{take_all}
 use Rattle.sheet.specs.Limits.{no_action, parts_in}
 use Rattle.sheet.proofs.plain.table.count_parts.Goals as goal
 
-pub overflow-add-count : goal.overflow-add-count
-overflow-add-count c =
+pub overflow_add-count : goal.overflow_add-count
+overflow_add-count c =
     let xs = c.args.actions.now in
     let i = c.loop-action.action-index in
     let within : i < length xs = omega arith in

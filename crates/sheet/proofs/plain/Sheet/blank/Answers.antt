@@ -14,7 +14,7 @@ invariant_of-result c =
     let made = c.in_ok-actions.ensures in
     let L : List Action → Type 0 = λ xs. Limited (vec_capacity v) xs in
     let F : List Action → Type 0 = λ xs. Formed xs in
-    (subst L (sym made.items) (made.capacity, lit≤ tt, lit≤ tt, lit≤ tt), (subst F (sym made.items) (λ i h. absurd (omega arith)), ((λ a b m. absurd (true≢false (sym m ∙ unmarked c.no_marks.result c.no_marks.ensures a b))), tt)))
+    record { limited = subst L (sym made.items) (made.capacity, lit≤ tt, lit≤ tt, lit≤ tt); formed = subst F (sym made.items) (λ i h. absurd (omega arith)); paired = (λ a b m. absurd (true≢false (sym m ∙ unmarked c.no_marks.result c.no_marks.ensures a b))) }
 
 pub returns : goal.returns
 returns c = same_content c.in_ok-actions.ensures.items (unmarked c.no_marks.result c.no_marks.ensures)

@@ -24,4 +24,4 @@ invariant_of-self c =
     let L : List Action → Type 0 = λ ys. Limited (vec_capacity after) ys in
     let F : List Action → Type 0 = λ ys. Formed ys in
     let P : List Action → Type 0 = λ ys. Paired ys (marked_in s.marks) in
-    (subst L items (limited (vec_capacity after) (xs ++ x ∷ []) room c.requires.room), (subst F items (formed_push xs x s.formed c.requires.formed), (subst P items (paired_push xs x (marked_in s.marks) s.paired), tt)))
+    record { limited = subst L items (limited (vec_capacity after) (xs ++ x ∷ []) room c.requires.room); formed = subst F items (formed_push xs x s.formed c.requires.formed); paired = subst P items (paired_push xs x (marked_in s.marks) s.paired) }

@@ -11,9 +11,9 @@ invariant_of-self c =
     let s = c.args.self.now in
     let xs = vec_items s.actions in
     let i = c.args.number in
-    let was = c.index-mut-action.result.now in
+    let was = c.index_mut-action.result.now in
     let x = switched c.args.on was in
     let within : i < length xs = search rules in
     let same : was ≡ get_or xs i no_action = search (rules, get_or_read) in
     let kind = ap (λ (a : Action). a.kind) same in
-    (limited_set (vec_capacity s.actions) xs i x s.limited within kind (ap (λ (a : Action). a.parts) same), (formed_set xs i x s.formed within (ap well_formed same ∙ s.formed i within), (paired_set xs i x (marked_in s.marks) s.paired within kind, tt)))
+    record { limited = limited_set (vec_capacity s.actions) xs i x s.limited within kind (ap (λ (a : Action). a.parts) same); formed = formed_set xs i x s.formed within (ap well_formed same ∙ s.formed i within); paired = paired_set xs i x (marked_in s.marks) s.paired within kind }

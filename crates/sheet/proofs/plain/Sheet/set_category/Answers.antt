@@ -11,10 +11,10 @@ invariant_of-self c =
     let s = c.args.self.now in
     let xs = vec_items s.actions in
     let i = c.args.number in
-    let was = c.index-mut-action.result.now in
+    let was = c.index_mut-action.result.now in
     let x = with_category c.args.category was in
     let within : i < length xs = search rules in
     let same : was ≡ get_or xs i no_action = search (rules, get_or_read) in
     let kind = ap (λ (a : Action). a.kind) same in
     let formed : well_formed x ≡ true = ap (λ (a : Action). well_formed (with_category c.args.category a)) same ∙ well_formed_recast (get_or xs i no_action) c.args.category c.requires.variable (s.formed i within) in
-    (limited_set (vec_capacity s.actions) xs i x s.limited within kind (ap (λ (a : Action). a.parts) same), (formed_set xs i x s.formed within formed, (paired_set xs i x (marked_in s.marks) s.paired within kind, tt)))
+    record { limited = limited_set (vec_capacity s.actions) xs i x s.limited within kind (ap (λ (a : Action). a.parts) same); formed = formed_set xs i x s.formed within formed; paired = paired_set xs i x (marked_in s.marks) s.paired within kind }

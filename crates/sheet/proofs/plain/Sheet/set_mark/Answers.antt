@@ -22,7 +22,7 @@ invariant_of-self c =
     let within : c.min.result < length s.marks = search rules in
     let below : c.max.result < 32 = search rules in
     let after = marks_after s.marks a b c.min.result c.max.result c.put.new.row mark c.min.ensures c.max.ensures within below c.put.ensures.len c.put.ensures.after in
-    (s.limited, (s.formed, ((λ x y m. paired_mark xs a b mark (marked_in s.marks) s.paired c.requires.pair x y (sym (after x y) ∙ m)), tt)))
+    record { limited = s.limited; formed = s.formed; paired = (λ x y m. paired_mark xs a b mark (marked_in s.marks) s.paired c.requires.pair x y (sym (after x y) ∙ m)) }
 
 pub returns : goal.returns
 returns c =

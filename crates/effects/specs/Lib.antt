@@ -5,3 +5,5 @@ pub mod Supplies
 pub mod Factors
 pub mod Lists
 pub mod Numbers
+pub mod RankingLaws
+pub mod Kinds

@@ -1,6 +1,7 @@
 // Effects at a cross-section.
 ghost use Rattle.std.specs.Prelude.{[], ◌∷◌};
 ghost use Rattle.effects.specs.Rankings.{by_first_difference};
+ghost use Rattle.effects.specs.Kinds.{section_closed, section_laws};
 
 use crate::component::{component_multiple, component_sum};
 use crate::effect::Effect;
@@ -20,6 +21,10 @@ impl Effect for Section {
     ghost count = { 3 };
 
     ghost reaches = { by_first_difference };
+
+    ghost closed = { section_closed };
+
+    ghost laws = { section_laws };
 
     fn zero() -> Section {
         Section {

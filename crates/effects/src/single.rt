@@ -1,6 +1,7 @@
 // Effects of one component.
 ghost use Rattle.std.specs.Prelude.{[], ◌∷◌};
 ghost use Rattle.effects.specs.Rankings.{first_not_less};
+ghost use Rattle.effects.specs.Kinds.{single_closed, single_laws};
 
 use crate::component::{component_multiple, component_sum};
 use crate::effect::Effect;
@@ -18,6 +19,10 @@ impl Effect for Single {
     ghost count = { 1 };
 
     ghost reaches = { first_not_less };
+
+    ghost closed = { single_closed };
+
+    ghost laws = { single_laws };
 
     fn zero() -> Single {
         Single { value: 0 }

@@ -19,7 +19,7 @@ returns-in_err-check g c =
     let es = c.args.effects.now in
     let so = sound_of _ (content sheet).actions sheet.limited sheet.formed in
     let bl = laws_of b (law.some c.args.book.now) (law.permanent c.args.book.now) (law.variable c.args.book.now) (law.uppers c.args.book.now) (law.prestresses c.args.book.now) (law.leadings c.args.book.now) in
-    let p = err_from_is_err_and c.from-residual.result c.from-residual.ensures.1 in
+    let p = err_from_is_err_and c.from_residual.result c.from_residual.ensures.1 in
     let q = c.in_err-check.field-0.0 in
     let strip = c.args.strip.now in
     rw (p.1, p.2) (record {

@@ -10,8 +10,8 @@ use Rattle.readings.proofs.number.nearest_whole.Goals.{Start, After-nearest_quot
 held : (c : goal.Start) → T (fits binary64 c.args.x)
 held c = search rules
 
-pub float-to_bits-bits : goal.float-to_bits-bits
-float-to_bits-bits c = is_number c.args.x c.requires
+pub float_to_bits-bits : goal.float_to_bits-bits
+float_to_bits-bits c = is_number c.args.x c.requires
 
 pub returns-then-exponent-lt-HALF : goal.returns-then-exponent-lt-HALF
 returns-then-exponent-lt-HALF c = below_half c.args.x (held (goal.at.returns-then-exponent-lt-HALF c).Start) c.requires c.if-exponent-lt-HALF.true

@@ -46,3 +46,4 @@ pub mod Ground
 pub mod EventWalk
 pub mod MaskWalk
 pub mod BaseWalk
+pub mod Slots

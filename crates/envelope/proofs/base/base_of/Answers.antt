@@ -3,11 +3,10 @@ use Rattle.rulebooks.specs.Books.{Book}
 use Rattle.sheet.specs.declared.plain.Sheet.{Sheet}
 use Rattle.sheet.specs.Content.{content}
 use Rattle.envelope.specs.Supplied.{Supplied}
-use Rattle.envelope.specs.Entries.{nowhere}
 use Rattle.envelope.proofs.Setting.{Setting}
-use Rattle.envelope.proofs.Ground.{sound_of, laws_of, grounded, at_turn, turn_within, lent}
-use Rattle.envelope.proofs.BaseWalk.{mask_within, share_read, share_added, base_done}
+use Rattle.envelope.proofs.Ground.{sound_of, laws_of, grounded, lent}
 use Rattle.envelope.proofs.base.base_of.Given as given
+use Rattle.envelope.proofs.Slots.{at_turn, base_done, mask_within, no_slot, number_within, share_added, share_read}
 use Rattle.envelope.proofs.base.base_of.Goals as goal
 
 -- the sheet with its effects and the rulebook
@@ -24,8 +23,8 @@ loop-entry-init g c = c.zero-total.ensures
 
 pub offset_bounds-masks-entry : goal.offset_bounds-masks-entry
 offset_bounds-masks-entry g c =
-    let h : (get_or c.args.entries.now c.loop-entry.entry-index nowhere).number < 32 =
-    turn_within (content c.args.sheet.now) c.args.entries.now c.loop-entry.entry-index c.requires.laid c.args.sheet.now.limited.1 c.loop-entry-test.true in
+    let h : (get_or c.args.entries.now c.loop-entry.entry-index no_slot).number < 32 =
+    number_within (content c.args.sheet.now) c.args.entries.now c.requires.laid c.loop-entry.entry-index c.loop-entry-test.true c.args.sheet.now.limited.1 in
     search rules
 
 pub bounds-masks-entry : goal.bounds-masks-entry
@@ -54,7 +53,7 @@ loop-entry-preserved g c =
     let set = set_of g c.args.sheet.now c.args.book.now c.args.effects.now c.requires.supplied in
     let hand = at_turn e.components (content c.args.sheet.now) c.args.effects.now c.args.sheet.now.formed c.requires.supplied list i c.requires.laid c.loop-entry-test.true in
     let own = ap (map e.components) c.parts_of.ensures ∙ hand.same in
-    let adds = share_read met.closed met.laws _ _ _ set c.args.form c.parts_of.result.now list i c.args.masks.now _ c.requires.laid c.loop-entry-test.true c.requires.full own c.share_of-share.ensures in
+    let adds = share_read met.closed met.laws _ _ _ set c.args.form list i c.parts_of.result.now c.args.masks.now _ c.requires.laid c.loop-entry-test.true c.requires.full own c.share_of-share.ensures in
     share_added met.closed met.laws _ _ _ set c.args.form list i _ _ _ c.requires.laid c.loop-entry-test.true c.loop-entry.invariant adds c.sum-total.ensures
 
 pub returns : goal.returns

@@ -2,10 +2,11 @@ use Rattle.std.proofs.Common.{◌≡◌, map, take}
 use Rattle.effects.specs.Supplies.{exact_total}
 use Rattle.sheet.specs.Content.{content}
 use Rattle.envelope.specs.Reported.{base_share}
+use Rattle.envelope.proofs.Slots.{held}
 use Rattle.envelope.proofs.base.base_of.Given as goal
 
 abbrev pub invariant-loop-entry : goal.invariant-loop-entry
 invariant-loop-entry g l =
     let e = g.E.Effect in
     let adds = base_share e.count e.reaches (content l.sheet) (g.R.Rulebook.meaning l.book) (map e.components l.effects) l.form in
-    e.components l.total ≡ exact_total e.count (map adds (take l.entry-index l.entries))
+    e.components l.total ≡ exact_total e.count (map adds (take l.entry-index (held l.entries)))

@@ -1,7 +1,7 @@
 use Rattle.std.proofs.Common.{Some, None, sym, refl, ◌∙◌}
 use Rattle.sheet.specs.Content.{content}
-use Rattle.envelope.proofs.Ground.{at_turn, lent}
-use Rattle.envelope.proofs.EventWalk.{event_taken, event_passed, event_found}
+use Rattle.envelope.proofs.Ground.{lent}
+use Rattle.envelope.proofs.Slots.{event_found, at_turn, event_passed, event_taken}
 use Rattle.envelope.proofs.masks.chosen_event.Goals as goal
 use Rattle.envelope.proofs.masks.chosen_event.Goals.{then-acts, else-acts}
 

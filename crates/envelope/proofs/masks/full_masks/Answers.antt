@@ -1,10 +1,10 @@
 use Rattle.std.proofs.Common.{◌<◌, get_or, refl, rules}
 use Rattle.rulebooks.specs.Books.{Book}
 use Rattle.sheet.specs.Content.{Content, content}
-use Rattle.envelope.specs.Entries.{nowhere}
 use Rattle.envelope.proofs.Variables.{placed}
-use Rattle.envelope.proofs.Ground.{at_turn, turn_within, of_turn, lent}
-use Rattle.envelope.proofs.MaskWalk.{mask_is, mask_written, masks_done}
+use Rattle.envelope.proofs.Ground.{lent}
+use Rattle.envelope.proofs.MaskWalk.{mask_is}
+use Rattle.envelope.proofs.Slots.{at, at_turn, mask_written, masks_done, no_slot, number_within, of_turn}
 use Rattle.envelope.proofs.masks.full_masks.Goals as goal
 
 pub loop-entry-init : goal.loop-entry-init
@@ -24,12 +24,12 @@ mask_of-requires g c =
 
 pub offset_bounds-masks-entry : goal.offset_bounds-masks-entry
 offset_bounds-masks-entry g c =
-    let h : (get_or c.args.entries.now c.loop-entry.entry-index nowhere).number < 32 =
-    turn_within (content c.args.sheet.now) c.args.entries.now c.loop-entry.entry-index c.requires.laid c.args.sheet.now.limited.1 c.loop-entry-test.true in
+    let h : (get_or c.args.entries.now c.loop-entry.entry-index no_slot).number < 32 =
+    number_within (content c.args.sheet.now) c.args.entries.now c.requires.laid c.loop-entry.entry-index c.loop-entry-test.true c.args.sheet.now.limited.1 in
     search rules
 
 pub bounds-masks-entry : goal.bounds-masks-entry
-bounds-masks-entry g c = turn_within (content c.args.sheet.now) c.args.entries.now c.loop-entry.entry-index c.requires.laid c.args.sheet.now.limited.1 c.loop-entry-test.true
+bounds-masks-entry g c = number_within (content c.args.sheet.now) c.args.entries.now c.requires.laid c.loop-entry.entry-index c.loop-entry-test.true c.args.sheet.now.limited.1
 
 pub loop-entry-preserved : goal.loop-entry-preserved
 loop-entry-preserved g c =
@@ -41,8 +41,8 @@ loop-entry-preserved g c =
     let i = c.loop-entry.entry-index in
     let limits = c.args.sheet.now.limited in
     let hand = at_turn e.components s es c.args.sheet.now.formed c.requires.supplied list i c.requires.laid c.loop-entry-test.true in
-    let place = of_turn s _ list i c.requires.laid c.loop-entry-test.true (placed s) in
-    let is = mask_is e.components e.count e.reaches s b es c.args.event (get_or list i nowhere) c.parts_of.result.now c.splits-splits.result c.mask_of.result c.requires.chosen c.splits-splits.ensures limits.2 place hand c.parts_of.ensures c.mask_of.ensures in
+    let place = of_turn s list c.requires.laid i c.loop-entry-test.true _ (placed s) in
+    let is = mask_is e.components e.count e.reaches s b es c.args.event (at list i) c.parts_of.result.now c.splits-splits.result c.mask_of.result c.requires.chosen c.splits-splits.ensures limits.2 place hand c.parts_of.ensures c.mask_of.ensures in
     mask_written e.components e.count e.reaches s b es list i c.loop-entry.masks c.mask_of.result c.requires.laid limits.1 c.loop-entry-test.true c.loop-entry.invariant is
 
 pub returns : goal.returns

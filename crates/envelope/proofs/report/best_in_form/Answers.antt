@@ -1,4 +1,4 @@
-use Rattle.std.proofs.Common.{◌≡◌, List, map, length, drop, refl, ap, ◌∙◌}
+use Rattle.std.proofs.Common.{◌≡◌, ◌≤◌, List, map, length, drop, refl, ap, ◌∙◌, mul-le-mul_right, arith}
 use lib.ListN.{length-map}
 use Rattle.rulebooks.specs.Books.{Book}
 use Rattle.sheet.specs.declared.plain.Sheet.{Sheet}
@@ -77,3 +77,10 @@ returns g c =
     c.best_set-peak.result.leader c.leader_number.result c.best_set-peak.result.set c.set_number.result (g.E.Effect.components c.best_set-peak.result.effect)
     c.best_set-peak.ensures.best c.best_set-peak.ensures.effect c.leader_number.ensures c.set_number.ensures in
     record { form = refl; best = h.0; effect = h.1; halves = c.fill_strip.ensures.halves; rest = c.fill_strip.ensures.rest }
+
+-- twelve effects fit, since the strip has at least as many
+pub offset_bounds-12 : goal.offset_bounds-12
+offset_bounds-12 g c =
+    let long : 12 ≤ length c.args.strip.now = (let l = c.requires.long in omega arith) in
+    let fits = c.well_formed in
+    omega (arith, mul-le-mul_right (prog.Memory.size (denote.Param.layout g.row.E)) long)

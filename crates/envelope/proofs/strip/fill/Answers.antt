@@ -2,10 +2,10 @@ use Rattle.std.proofs.Common.{ℕ, ◌<◌, ◌≤◌, List, map, length, get_or
 use Rattle.effects.specs.Components.{zeros}
 use Rattle.effects.specs.Supplies.{Supply}
 use Rattle.sheet.specs.Content.{content}
-use Rattle.envelope.specs.Entries.{Entry, nowhere}
+use Rattle.envelope.specs.Entries.{Entry}
 use Rattle.envelope.specs.Layout.{role_factor, contribution_by}
-use Rattle.envelope.proofs.Walk.{number_at, as_many, place_below, placed_no, placed_all}
-use Rattle.envelope.proofs.Filling.{parts_within, parts_few, parts_supply, contributed, filled_yes}
+use Rattle.envelope.proofs.Filling.{contributed}
+use Rattle.envelope.proofs.Slots.{as_many, at, filled_yes, no_slot, number_at, parts_few, parts_supply, parts_within, place_below, placed_all, placed_no}
 use Rattle.envelope.proofs.strip.fill.Goals as goal
 use Rattle.envelope.proofs.strip.fill.Goals.{then-is_variable, else-is_variable}
 
@@ -42,7 +42,7 @@ bounds-half-entry g c =
 
 pub offset_bounds-half-entry : goal.offset_bounds-half-entry
 offset_bounds-half-entry g c =
-    let within : (get_or c.args.entries.now c.loop-entry.entry-index nowhere).place < length c.loop-entry.half = bounds-half-entry g c in
+    let within : (get_or c.args.entries.now c.loop-entry.entry-index no_slot).place < length c.loop-entry.half = bounds-half-entry g c in
     search rules
 
 pub loop-entry-preserved : goal.loop-entry-preserved
@@ -53,7 +53,7 @@ loop-entry-preserved g c =
     let es = c.args.effects.now in
     let masks = c.args.masks.now in
     let i = c.loop-entry.entry-index in
-    let e = get_or list i nowhere in
+    let e = at list i in
     let half = c.loop-entry.half in
     let factor : Entry → ℕ = λ e. role_factor ((g.R.Rulebook.meaning c.args.book.now).form c.args.form) c.args.role e.action.category in
     let f : Entry → List ℤ = contribution_by k.count (map k.components es) masks factor in

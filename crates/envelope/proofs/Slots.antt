@@ -1,0 +1,223 @@
+-- The walks over the entries of a sheet, as the code has them: over the slots that hold them.
+use Rattle.std.proofs.Common.{◌≡◌, ℕ, ◌+◌, ◌-◌, ◌*◌, ◌%◌, ◌^◌, ◌<◌, ◌≤◌, Bool, true, false, cond, List, [], ◌∷◌, ◌++◌, map, length, get_or, take, drop, set, sum_by, filter, ℤ, Some, None, Option, sym, ap, ◌∙◌, subst, arith}
+use lib.ListN.{length-map}
+use Rattle.std.proofs.Math.ListN.{get_or-map}
+use Rattle.std.proofs.lemmas.List.{take-map, map-set}
+use Rattle.std.specs.List.{AllByRecursion as All}
+use Rattle.basis.specs.declared.action.Kind.{Kind}
+use Rattle.effects.specs.Components.{zeros, size, sum}
+use Rattle.effects.specs.Laws.{Closed, Laws}
+use Rattle.effects.specs.Supplies.{Supply, exact_total}
+use Rattle.rulebooks.specs.Books.{Book}
+use Rattle.sheet.specs.declared.action.Action.{Action}
+use Rattle.sheet.specs.Content.{Content}
+use Rattle.sheet.specs.Limits.{no_action, variables, parts_in, Formed}
+use Rattle.envelope.specs.declared.entry.Slot.{Slot}
+use Rattle.envelope.specs.declared.masks.Ranked.{Ranked}
+use Rattle.envelope.specs.Entries.{Entry, entries, nowhere, parts_of, acts}
+use Rattle.envelope.specs.Slots.{entry_of}
+use Rattle.envelope.specs.Places.{places}
+use Rattle.envelope.specs.Choices.{event_effect, event_of}
+use Rattle.envelope.specs.Layout.{has_choice, choice_set}
+use Rattle.envelope.specs.Reported.{with_chosen, base_share}
+use Rattle.envelope.specs.Supplied.{Supplied}
+use Rattle.envelope.specs.Walks.{fixed_share}
+use Rattle.envelope.proofs.Setting.{Setting}
+use Rattle.envelope.proofs.Variables.{varies}
+use Rattle.envelope.proofs.Ground as ground
+use Rattle.envelope.proofs.Ground.{AtHand}
+use Rattle.envelope.proofs.LaidOut as laid
+use Rattle.envelope.proofs.LaidOut.{Laid}
+use Rattle.envelope.proofs.Walk as walk
+use Rattle.envelope.proofs.Walk.{Placed, NumberedSo}
+use Rattle.envelope.proofs.BaseWalk as base
+use Rattle.envelope.proofs.MaskWalk as mask
+use Rattle.envelope.proofs.MaskWalk.{mask_there, masks_upto}
+use Rattle.envelope.proofs.EventWalk as event
+use Rattle.envelope.proofs.EventWalk.{events_left}
+use Rattle.envelope.proofs.Filling as filling
+use Rattle.envelope.proofs.Choosable as choosable
+use Rattle.envelope.proofs.Recorded as recorded
+use Rattle.envelope.proofs.Choosable.{worth}
+
+abbrev pub no_slot : Slot
+no_slot = record { number = 0; place = 0; first = 0; action = no_action }
+
+-- the entries that slots hold
+abbrev pub held : List Slot → List Entry
+held xs = map entry_of xs
+
+-- the entry in slot i
+abbrev pub at : List Slot → ℕ → Entry
+at xs i = entry_of (get_or xs i no_slot)
+
+held_at : (xs : List Slot) (i : ℕ) → get_or (held xs) i nowhere ≡ at xs i
+held_at xs i = get_or-map entry_of xs i no_slot
+
+pub held_long : (xs : List Slot) → length (held xs) ≡ length xs
+held_long xs = length-map xs entry_of
+
+inside : (xs : List Slot) (i : ℕ) → i < length xs → i < length (held xs)
+inside xs i l = omega (arith, held_long xs)
+
+past : (xs : List Slot) (i : ℕ) → length xs ≤ i → length (held xs) ≤ i
+past xs i l = omega (arith, held_long xs)
+
+-- what holds of an entry holds of the slot's
+in_slot : (P : Entry → Type 0) (xs : List Slot) (i : ℕ) → P (get_or (held xs) i nowhere) → P (at xs i)
+in_slot P xs i = subst P (held_at xs i)
+
+of_slot : (P : Entry → Type 0) (xs : List Slot) (i : ℕ) → P (at xs i) → P (get_or (held xs) i nowhere)
+of_slot P xs i = subst P (sym (held_at xs i))
+
+module _ (s : Content) (xs : List Slot) (is : held xs ≡ entries s) where
+  pub as_many : length xs ≡ length s.actions
+  as_many = sym (held_long xs) ∙ walk.as_many s (held xs) is
+
+  module _ (i : ℕ) (l : i < length xs) where
+    pub number_at : (get_or xs i no_slot).number ≡ i
+    number_at = in_slot (λ e. e.number ≡ i) xs i (walk.number_at s (held xs) is i (inside xs i l))
+
+    pub place_most : variables s.actions ≤ 12 → (get_or xs i no_slot).place ≤ 12
+    place_most few = in_slot (λ e. e.place ≤ 12) xs i (walk.place_most s (held xs) is i (inside xs i l) few)
+
+    pub place_below : variables s.actions ≤ 12 → varies (at xs i) ≡ true → (get_or xs i no_slot).place < 12
+    place_below few = in_slot (λ e. varies e ≡ true → e.place < 12) xs i (walk.place_below s (held xs) is i (inside xs i l) few)
+
+    pub number_within : length s.actions ≤ 32 → (get_or xs i no_slot).number < 32
+    number_within short = in_slot (λ e. e.number < 32) xs i (ground.turn_within s (held xs) i is short (inside xs i l))
+
+    pub of_turn : (P : Entry → Type 0) → All P (entries s) → P (at xs i)
+    of_turn P each = in_slot P xs i (ground.of_turn s P (held xs) i is (inside xs i l) each)
+
+module _ {B : Type 0} (f : Entry → B) (z : B) (s : Content) (xs : List Slot) (is : held xs ≡ entries s) (i : ℕ) (out : List B) where
+  pub placed_yes : variables s.actions ≤ 12 → i < length xs → varies (at xs i) ≡ true → (b : B) → b ≡ f (at xs i) → Placed f z (held xs) i out
+      → Placed f z (held xs) (i + 1) (set out (get_or xs i no_slot).place b)
+  placed_yes few l = in_slot (λ e. varies e ≡ true → (b : B) → b ≡ f e → Placed f z (held xs) i out → Placed f z (held xs) (i + 1) (set out e.place b)) xs i
+      (walk.placed_yes f z s (held xs) is i out few (inside xs i l))
+
+  pub placed_no : i < length xs → varies (at xs i) ≡ false → Placed f z (held xs) i out → Placed f z (held xs) (i + 1) out
+  placed_no l = in_slot (λ e. varies e ≡ false → Placed f z (held xs) i out → Placed f z (held xs) (i + 1) out) xs i (walk.placed_no f z s (held xs) is i out (inside xs i l))
+
+  pub placed_all : length xs ≤ i → Placed f z (held xs) i out → out ≡ places 12 (map f (filter varies (entries s))) z
+  placed_all l = walk.placed_all f z s (held xs) is i out (past xs i l)
+
+  pub numbered_more : length s.actions ≤ 32 → i < length xs → (b : B) → b ≡ f (at xs i) → NumberedSo f z (held xs) i out
+      → NumberedSo f z (held xs) (i + 1) (set out (get_or xs i no_slot).number b)
+  numbered_more few l = in_slot (λ e. (b : B) → b ≡ f e → NumberedSo f z (held xs) i out → NumberedSo f z (held xs) (i + 1) (set out e.number b)) xs i
+      (walk.numbered_more f z s (held xs) is i out few (inside xs i l))
+
+  pub numbered_all : length xs ≤ i → NumberedSo f z (held xs) i out → out ≡ places 32 (map f (entries s)) z
+  numbered_all l = walk.numbered_all f z s (held xs) is i out (past xs i l)
+
+pub at_turn : {E : Type 0} (components : E → List ℤ) (s : Content) (es : List E) (formed : Formed s.actions) (supplied : Supplied s (map components es)) (xs : List Slot) (i : ℕ) → held xs ≡ entries s
+    → i < length xs → AtHand components es (at xs i)
+at_turn components s es formed supplied xs i is l = in_slot (AtHand components es) xs i (ground.at_turn components s es formed supplied (held xs) i is (inside xs i l))
+
+-- the entries in the slots that the code reads
+pub laid_here : (s : Content) (xs : List Slot) (list : List Action) → list ≡ s.actions → length s.actions ≤ 32 → held xs ≡ places 32 (entries s) nowhere → held (take (length list - 0) xs) ≡ entries s
+laid_here s xs list e short is = sym (take-map entry_of (length list - 0) xs) ∙ recorded.laid_here s (held xs) list e short is
+
+-- ---- the base of a form
+module _ {E : Type 0} {components : E → List ℤ} {count : ℕ} {reaches : List ℤ → List ℤ → Bool} (kind : Closed components count) (laws : Laws components count reaches)
+    (s : Content) (b : Book) (xss : List (List ℤ)) (set : Setting kind laws s b xss) (f : ℕ) (xs : List Slot) (i : ℕ) where
+  abbrev adds : Entry → List ℤ
+  adds = base_share count reaches s b xss f
+
+  pub mask_within : (masks : List ℕ) → held xs ≡ entries s → i < length xs → masks ≡ (with_chosen count reaches s b xss 0 None 4095).masks → (get_or xs i no_slot).number < length masks
+  mask_within masks is l full = in_slot (λ e. e.number < length masks) xs i (base.mask_within kind laws s b xss set f (held xs) i masks is (inside xs i l) full)
+
+  pub share_read : (ps : List E) (masks : List ℕ) (r : List ℤ) → held xs ≡ entries s → i < length xs
+      → masks ≡ (with_chosen count reaches s b xss 0 None 4095).masks → map components ps ≡ parts_of xss (at xs i)
+      → r ≡ fixed_share count (b.form f) (at xs i) (get_or masks (get_or xs i no_slot).number 0) (map components ps) → r ≡ adds (at xs i)
+  share_read ps masks r is l full =
+      in_slot (λ e. map components ps ≡ parts_of xss e → r ≡ fixed_share count (b.form f) e (get_or masks e.number 0) (map components ps) → r ≡ adds e) xs i
+      (base.share_read kind laws s b xss set f ps (held xs) i masks r is (inside xs i l) full)
+
+  pub share_added : (total more next : List ℤ) → held xs ≡ entries s → i < length xs → total ≡ exact_total count (map adds (take i (held xs)))
+      → more ≡ adds (at xs i) → next ≡ sum total more → next ≡ exact_total count (map adds (take (i + 1) (held xs)))
+  share_added total more next is l so =
+      in_slot (λ e. more ≡ adds e → next ≡ sum total more → next ≡ exact_total count (map adds (take (i + 1) (held xs)))) xs i
+      (base.share_added kind laws s b xss set f (held xs) i total more next is (inside xs i l) so)
+
+  pub base_done : (total : List ℤ) → held xs ≡ entries s → length xs ≤ i → total ≡ exact_total count (map adds (take i (held xs))) → total ≡ exact_total count (map adds (entries s))
+  base_done total is l = base.base_done kind laws s b xss set f (held xs) i total is (past xs i l)
+
+-- ---- the masks
+module _ {E : Type 0} (components : E → List ℤ) (count : ℕ) (reaches : List ℤ → List ℤ → Bool) (s : Content) (b : Book) (es : List E) (xs : List Slot) (i : ℕ) (masks : List ℕ) where
+  pub mask_written : (m : ℕ) → held xs ≡ entries s → length s.actions ≤ 32 → i < length xs → masks ≡ masks_upto components count reaches s b es (held xs) i → m ≡ mask_there components count reaches s b es (at xs i)
+      → set masks (get_or xs i no_slot).number m ≡ masks_upto components count reaches s b es (held xs) (i + 1)
+  mask_written m is short l so =
+      in_slot (λ e. m ≡ mask_there components count reaches s b es e → set masks e.number m ≡ masks_upto components count reaches s b es (held xs) (i + 1)) xs i
+      (mask.mask_written components count reaches s b es (held xs) i masks m is short (inside xs i l) so)
+
+  pub masks_done : held xs ≡ entries s → length xs ≤ i → masks ≡ masks_upto components count reaches s b es (held xs) i → masks ≡ places 32 (map (mask_there components count reaches s b es) (entries s)) 0
+  masks_done is l = mask.masks_done components count reaches s b es (held xs) i masks is (past xs i l)
+
+-- ---- the event
+module _ {E : Type 0} (components : E → List ℤ) (count : ℕ) (reaches : List ℤ → List ℤ → Bool) (k : Kind) (es : List E) where
+  abbrev left : Option (Ranked E) → List Entry → Option ℕ
+  left = events_left components count reaches k es
+
+  module _ (xs : List Slot) (i : ℕ) (h : i < length xs) (best next : Option (Ranked E)) (r : Option ℕ) (so : left best (drop i (held xs)) ≡ r) where
+    pub event_taken : (x : E) (ps : List E) (w : Ranked E) → acts k (get_or xs i no_slot).action ≡ true → AtHand components es (at xs i)
+        → ps ≡ parts_of es (at xs i) → components x ≡ event_effect count reaches (get_or xs i no_slot).action.spread (map components ps)
+        → w ≡ elim best [ None ↦ record { number = (get_or xs i no_slot).number; effect = x } | Some b ↦ cond (reaches (components b.effect) (components x)) b (record { number = (get_or xs i no_slot).number; effect = x }) ]
+        → next ≡ Some w → left next (drop (i + 1) (held xs)) ≡ r
+    event_taken x ps w =
+        in_slot (λ e. acts k e.action ≡ true → AtHand components es e
+        → ps ≡ parts_of es e → components x ≡ event_effect count reaches e.action.spread (map components ps)
+        → w ≡ elim best [ None ↦ record { number = e.number; effect = x } | Some b ↦ cond (reaches (components b.effect) (components x)) b (record { number = e.number; effect = x }) ]
+        → next ≡ Some w → left next (drop (i + 1) (held xs)) ≡ r) xs i
+        (event.event_taken components count reaches k es (held xs) i (inside xs i h) best next r so x ps w)
+
+    pub event_passed : acts k (get_or xs i no_slot).action ≡ false → next ≡ best → left next (drop (i + 1) (held xs)) ≡ r
+    event_passed = in_slot (λ e. acts k e.action ≡ false → next ≡ best → left next (drop (i + 1) (held xs)) ≡ r) xs i
+        (event.event_passed components count reaches k es (held xs) i (inside xs i h) best next r so)
+
+-- ---- a half of the strip
+module _ {E : Type 0} (components : E → List ℤ) (s : Content) (xs : List Slot) (is : held xs ≡ entries s) (es : List E) (complete : length es ≡ parts_in s.actions) (i : ℕ) (l : i < length xs) where
+  pub parts_within : (get_or xs i no_slot).first + (get_or xs i no_slot).action.parts ≤ length es
+  parts_within = in_slot (λ e. e.first + e.action.parts ≤ length es) xs i (filling.parts_within components s (held xs) is es complete i (inside xs i l))
+
+  pub parts_few : Formed s.actions → (parts : List E) → parts ≡ parts_of es (at xs i) → length parts ≤ 16
+  parts_few formed parts = in_slot (λ e. parts ≡ parts_of es e → length parts ≤ 16) xs i (filling.parts_few components s (held xs) is es complete i (inside xs i l) formed parts)
+
+  pub parts_supply : Formed s.actions → All (λ ys. size ys ≤ 1_000_000_000) (map components es) → (parts : List E) → parts ≡ parts_of es (at xs i) → Supply (map components parts)
+  parts_supply formed small parts = in_slot (λ e. parts ≡ parts_of es e → Supply (map components parts)) xs i (filling.parts_supply components s (held xs) is es complete i (inside xs i l) formed small parts)
+
+pub filled_yes : {E : Type 0} (components : E → List ℤ) (n : ℕ) (f : Entry → List ℤ) (s : Content) (xs : List Slot) (is : held xs ≡ entries s) (i : ℕ) (half : List E) (r : E)
+    → variables s.actions ≤ 12 → i < length xs → varies (at xs i) ≡ true → components r ≡ f (at xs i)
+    → Placed f (zeros n) (held xs) i (map components half) → Placed f (zeros n) (held xs) (i + 1) (map components (set half (get_or xs i no_slot).place r))
+filled_yes components n f s xs is i half r few l =
+    in_slot (λ e. varies e ≡ true → components r ≡ f e → Placed f (zeros n) (held xs) i (map components half) → Placed f (zeros n) (held xs) (i + 1) (map components (set half e.place r))) xs i
+    (filling.filled_yes components n f s (held xs) is i half r few (inside xs i l))
+
+-- ---- the places with a choice
+module _ (masks : List ℕ) (s : Content) (xs : List Slot) (is : held xs ≡ entries s) (few : variables s.actions ≤ 12) (i : ℕ) (l : i < length xs) (chosen : ℕ) (so : chosen ≡ sum_by (worth masks) (take i (held xs))) where
+  pub choose_yes : varies (at xs i) ≡ true → (get_or masks (get_or xs i no_slot).number 0 ≡ 0 → ⊥) → chosen + (1 * 2 ^ (get_or xs i no_slot).place) % 65536 ≡ sum_by (worth masks) (take (i + 1) (held xs))
+  choose_yes =
+      in_slot (λ e. varies e ≡ true → (get_or masks e.number 0 ≡ 0 → ⊥) → chosen + (1 * 2 ^ e.place) % 65536 ≡ sum_by (worth masks) (take (i + 1) (held xs))) xs i
+      (choosable.choose_yes masks s (held xs) is few i (inside xs i l) chosen so)
+
+  pub choose_fits : varies (at xs i) ≡ true → (get_or masks (get_or xs i no_slot).number 0 ≡ 0 → ⊥) → chosen + (1 * 2 ^ (get_or xs i no_slot).place) % 65536 < 65536
+  choose_fits =
+      in_slot (λ e. varies e ≡ true → (get_or masks e.number 0 ≡ 0 → ⊥) → chosen + (1 * 2 ^ e.place) % 65536 < 65536) xs i
+      (choosable.choose_fits masks s (held xs) is few i (inside xs i l) chosen so)
+
+  pub choose_no : has_choice masks (at xs i) ≡ false → chosen ≡ sum_by (worth masks) (take (i + 1) (held xs))
+  choose_no = in_slot (λ e. has_choice masks e ≡ false → chosen ≡ sum_by (worth masks) (take (i + 1) (held xs))) xs i (choosable.choose_no masks s (held xs) is few i (inside xs i l) chosen so)
+
+pub choose_all : (masks : List ℕ) (s : Content) (xs : List Slot) (i chosen : ℕ) → held xs ≡ entries s → length xs ≤ i → chosen ≡ sum_by (worth masks) (take i (held xs)) → chosen ≡ choice_set masks s
+choose_all masks s xs i chosen is l = choosable.choose_all masks s (held xs) i chosen is (past xs i l)
+
+pub event_found : {E : Type 0} (components : E → List ℤ) (count : ℕ) (reaches : List ℤ → List ℤ → Bool) (k : Kind) (es : List E) (s : Content) (kind : Option Kind) (xs : List Slot) (i : ℕ) (best o : Option (Ranked E)) → kind ≡ Some k → held xs ≡ entries s → length xs ≤ i
+    → events_left components count reaches k es best (drop i (held xs)) ≡ events_left components count reaches k es None (held xs) → best ≡ o → events_left components count reaches k es o [] ≡ event_of count reaches kind s (map components es)
+event_found components count reaches k es s kind xs i best o is laid h = event.event_found components count reaches k es s kind (held xs) i best o is laid (past xs i h)
+
+-- a slot is written
+pub laid_in_slots : (list items : List Action) (i place then_place first : ℕ) (xs : List Slot)
+    → Laid list (i + 1) then_place (first + (get_or items i no_action).parts) (set (held xs) i (laid.entry_of i place first (get_or items i no_action)))
+    → Laid list (i + 1) then_place (first + (get_or items i no_action).parts) (held (set xs i (record { number = i; place = place; first = first; action = get_or items i no_action })))
+laid_in_slots list items i place then_place first xs =
+    subst (Laid list (i + 1) then_place (first + (get_or items i no_action).parts)) (sym (map-set entry_of xs i (record { number = i; place = place; first = first; action = get_or items i no_action })))

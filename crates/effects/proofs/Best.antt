@@ -1,5 +1,5 @@
 -- The lowest-numbered greatest effect so far.
-use Rattle.std.proofs.Common.{◌≡◌, ℕ, zero, suc, ◌+◌, ◌<◌, ◌≤◌, Bool, true, false, cond, not, T, ◌⊎◌, List, [], ◌∷◌, map, length, get_or, drop, ℤ, Some, None, Option, sym, refl, ap, ◌∙◌, subst, inl, inr, ⊎_elim, arith, T_not, below_more}
+use Rattle.std.proofs.Common.{◌≡◌, ℕ, zero, suc, ◌+◌, ◌<◌, ◌≤◌, Bool, true, false, cond, not, T, ◌⊎◌, List, [], ◌∷◌, map, length, get_or, drop, ℤ, Some, None, sym, refl, ap, ◌∙◌, subst, ⊎_elim, arith, T_not, below_more}
 use lib.Dec.{not_T}
 use lib.ListN.{length-map}
 use Rattle.std.specs.List.{AllByRecursion as All}

@@ -1,5 +1,5 @@
 -- The sum of a supply stops nowhere.
-use Rattle.std.proofs.Common.{◌≡◌, ℕ, zero, suc, ◌+◌, ◌*◌, ◌<◌, ◌≤◌, List, [], ◌∷◌, map, length, get_or, take, ℤ, ◌+ℤ◌, fold, sym, refl, ap, ◌∙◌, subst, suc-mul, arith}
+use Rattle.std.proofs.Common.{◌≡◌, ℕ, zero, suc, ◌+◌, ◌*◌, ◌<◌, ◌≤◌, List, [], ◌∷◌, map, length, get_or, take, ℤ, fold, sym, refl, ap, ◌∙◌, suc-mul, arith}
 use lib.IntN.{+ℤ_assoc, +ℤ_idr}
 use lib.ListN.{length-replicate}
 use Rattle.std.proofs.lemmas.List.Sums.{fold_more}

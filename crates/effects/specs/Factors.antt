@@ -1,9 +1,9 @@
 -- The fifth law from the third and the fourth, and so also of the layer that turns a ranking.
-use Rattle.std.specs.Prelude.{◌≡◌, ℕ, ◌+◌, ◌-◌, ◌≤◌, Bool, T, List, length, ℤ, refl}
-use Rattle.std.proofs.Common.{sym, ap, subst, ◌∙◌, ⊎_elim, inl, inr, arith}
-use Rattle.effects.specs.Components.{zeros, sum, multiple, exact_multiple, size}
+use Rattle.std.specs.Prelude.{◌≡◌, ℕ, ◌+◌, ◌-◌, Bool, T, List, length, ℤ}
+use Rattle.std.proofs.Common.{sym, ap, subst, ◌∙◌, arith}
+use Rattle.effects.specs.Components.{sum, multiple, exact_multiple, size}
 use Rattle.effects.specs.Laws.{Closed, Laws, Large, Small, IsFactor, KeptBySum, KeptByMultiple, NotLowered}
-use Rattle.effects.specs.Lists.{zeros_multiple, zeros_sum, zeros_size, length_multiple, large_sum, small_multiple, large_multiple, multiple_split}
+use Rattle.effects.specs.Lists.{zeros_multiple, zeros_sum, zeros_size, large_sum, small_multiple, large_multiple, multiple_split}
 
 module _ {E : Type 0} {components : E → List ℤ} {count : ℕ} (closed : Closed components count) where
   pub not_lowered : (reaches : List ℤ → List ℤ → Bool) → KeptBySum components count reaches → KeptByMultiple components count reaches → NotLowered components count reaches

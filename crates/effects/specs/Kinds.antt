@@ -1,5 +1,5 @@
 -- Single and section effects are kinds of effect, and their rankings keep the laws.
-use Rattle.std.specs.Prelude.{List, [], ◌∷◌, ℤ}
+use Rattle.std.specs.Prelude.{[], ◌∷◌}
 use Rattle.std.proofs.Common.{refl}
 use Rattle.effects.specs.declared.single.Single.{Single}
 use Rattle.effects.specs.declared.section.Section.{Section}

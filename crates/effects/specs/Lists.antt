@@ -1,10 +1,10 @@
 -- Component lists: sums and multiples that stop nowhere.
-use Rattle.std.specs.Prelude.{◌≡◌, ℕ, zero, suc, ◌+◌, ◌-◌, ◌*◌, ◌<◌, ◌≤◌, max, List, [], ◌∷◌, length, replicate, ℤ, pos, negsuc, ◌+ℤ◌, ◌*ℤ◌, unsigned_abs, refl}
-use Rattle.std.proofs.Common.{sym, ap, subst, ◌∙◌, mul-le-mul, mul-le-mul_left, mul-zero, add-mul, arith}
+use Rattle.std.specs.Prelude.{◌≡◌, ℕ, zero, suc, ◌+◌, ◌*◌, ◌≤◌, max, List, [], ◌∷◌, length, ℤ, pos, ◌+ℤ◌, ◌*ℤ◌, unsigned_abs, refl}
+use Rattle.std.proofs.Common.{ap, mul-le-mul, mul-le-mul_left, arith}
 use Rattle.std.proofs.Math.IntN.{*ℤ-zero, +ℤ_idl}
 use Rattle.effects.specs.Components.{stopped, zeros, sum, multiple, exact_sum, exact_multiple, size}
 use Rattle.effects.specs.Laws.{Large, Small, IsFactor}
-use Rattle.effects.specs.Numbers.{stopped_exact, sum_size, product_size, product_le, product_split}
+use Rattle.effects.specs.Numbers.{stopped_exact, sum_size, product_size, product_split}
 
 pub sum_exact : (xs ys : List ℤ) → size xs + size ys ≤ 1_000_000_000_000_000_000 → sum xs ys ≡ exact_sum xs ys
 sum_exact [] ys h = refl

@@ -1,10 +1,10 @@
 -- The two rankings keep the laws, at any closed.
-use Rattle.std.proofs.Common.{◌≡◌, ℕ, zero, suc, ◌+◌, ◌-◌, ◌<◌, ◌≤◌, Bool, true, false, cond, T, ◌⊎◌, List, [], ◌∷◌, length, ℤ, pos, ◌+ℤ◌, ◌*ℤ◌, ◌≤ℤ◌, ◌<ℤ◌, sym, refl, ap, ◌∙◌, subst, inl, inr, ⊎_elim, arith}
+use Rattle.std.proofs.Common.{◌≡◌, ℕ, zero, suc, ◌<◌, Bool, true, false, T, ◌⊎◌, List, [], ◌∷◌, length, ℤ, pos, ◌+ℤ◌, ◌*ℤ◌, ◌<ℤ◌, sym, refl, ap, ◌∙◌, inl, inr, ⊎_elim, arith}
 use lib.IntN.{zero-*ℤ}
-use lib.Signed.{le_z, lt_z}
+use lib.Signed.{lt_z}
 use Rattle.std.proofs.lemmas.Int.{ints}
-use Rattle.effects.specs.Components.{zeros, sum, multiple, exact_sum, exact_multiple, size}
-use Rattle.effects.specs.Laws.{Closed, Laws, Large, Small, IsFactor, KeptBySum, KeptByMultiple}
+use Rattle.effects.specs.Components.{exact_sum, exact_multiple}
+use Rattle.effects.specs.Laws.{Closed, Laws, KeptBySum, KeptByMultiple}
 use Rattle.effects.specs.Rankings.{first_not_less, by_first_difference}
 use Rattle.effects.specs.Numbers.{product_keeps, product_strict, sum_keeps, sum_strict, ≤-total, by_order}
 use Rattle.effects.specs.Lists.{large_sum, small_multiple}

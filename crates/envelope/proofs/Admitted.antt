@@ -1,10 +1,10 @@
 -- The combination with chosen parts is admissible again.
-use Rattle.std.proofs.Common.{◌≡◌, ℕ, zero, suc, ◌+◌, ◌*◌, ◌^◌, ◌<◌, ◌≤◌, Bool, true, false, cond, not, ◌&&◌, ◌||◌, T, eqb, ◌⊎◌, List, [], ◌∷◌, map, length, get_or, ℤ, Some, None, fold, sum_by, Option, sym, refl, ap, ◌∙◌, subst, inl, inr, ⊎_elim, arith}
+use Rattle.std.proofs.Common.{◌≡◌, ℕ, ◌+◌, ◌^◌, ◌<◌, ◌≤◌, Bool, true, false, cond, not, ◌&&◌, ◌||◌, T, eqb, ◌⊎◌, List, [], ◌∷◌, map, length, get_or, ℤ, Some, None, fold, Option, sym, refl, ap, ◌∙◌, subst, inl, inr, arith}
 use lib.Ieee.Bits.{is_true}
 use lib.ListN.{length-map}
 use Rattle.std.proofs.lemmas.Nat.{pow_pos, pow_below}
 use Rattle.std.proofs.lemmas.List.{get_or_past}
-use Rattle.std.proofs.lemmas.Bool.{cases_Bool, cases_lt, eqb-true, eq-eqb, eqb-false, ne_eqb, both_ways, and_parts}
+use Rattle.std.proofs.lemmas.Bool.{cases_Bool, cases_lt, both_ways, and_parts}
 use Rattle.std.proofs.ByRecursion.{All-weaker}
 use Rattle.std.specs.List.{AllByRecursion as All}
 use Rattle.basis.specs.declared.action.Kind.{Kind}
@@ -12,29 +12,27 @@ use Rattle.basis.specs.declared.action.Kind.TheVariants.{Permanent, Prestress, V
 use Rattle.basis.specs.declared.action.Spread.{Spread}
 use Rattle.basis.specs.declared.action.Spread.TheVariants.{Fixed, Free, Alternative}
 use Rattle.basis.specs.Vocabulary.{is_variable, event_kind}
-use Rattle.effects.specs.Components.{zeros}
 use Rattle.effects.specs.Supplies.{exact_total}
 use Rattle.effects.specs.Laws.{Closed, Laws}
-use Rattle.rulebooks.specs.Books.{Form, Book}
+use Rattle.rulebooks.specs.Books.{Book}
 use Rattle.sheet.specs.declared.action.Action.{Action}
 use Rattle.sheet.specs.Content.{Content, action_at, variable_at}
 use Rattle.sheet.specs.Limits.{no_action}
 use Rattle.envelope.specs.declared.combination.Combination.{Combination}
 use Rattle.envelope.specs.Entries.{Entry, entries, parts_of, acts, has, whole}
-use Rattle.envelope.specs.Combinations.{mask, named, present, set_number}
-use Rattle.envelope.specs.Admissible.{Admissible, SpreadKept, One, Led, EventNamed, EventMask, active_parts}
+use Rattle.envelope.specs.Combinations.{mask, named, present}
+use Rattle.envelope.specs.Admissible.{Admissible, SpreadKept, Led, EventNamed, EventMask, active_parts}
 use Rattle.envelope.specs.Choices.{above_zero, greatest_part, choice, at_upper, event_choice, event_of}
 use Rattle.envelope.specs.Reported.{chosen_mask, kind_mask}
 use Rattle.envelope.proofs.Bits.{mask_below}
-use Rattle.envelope.proofs.Values.{Value}
 use Rattle.envelope.proofs.Weights.{Parts}
 use Rattle.envelope.proofs.Choose.{large}
 use Rattle.envelope.proofs.Tops.{top_of}
-use Rattle.envelope.proofs.Numbering.{entry_at, at_number, at_action, Numbered, numbered, of_number, each_number, places_length, places_at, entries_length}
-use Rattle.envelope.proofs.Setting.{Setting, Own, is_event}
-use Rattle.envelope.proofs.Mended.{Facts, facts, mended, mask_by, keep, first-kept, leader_from, set', acts_of}
-use Rattle.envelope.proofs.Events.{Proper, proper, own_some, Chosen, chosen}
-use Rattle.envelope.proofs.Dominance.{acts_parts, event_kind_is, best, quiet_by}
+use Rattle.envelope.proofs.Numbering.{entry_at, at_number, at_action, of_number, places_length, places_at, entries_length}
+use Rattle.envelope.proofs.Setting.{Setting, is_event}
+use Rattle.envelope.proofs.Mended.{Facts, facts, mended, mask_by, keep, first-kept, leader_from, set'}
+use Rattle.envelope.proofs.Events.{Proper, proper, own_some}
+use Rattle.envelope.proofs.Dominance.{acts_parts, best, quiet_by}
 
 pub variable_is : (k : Kind) → is_variable k ≡ true → k ≡ Variable
 variable_is Permanent e = absurd (both_ways false refl e)

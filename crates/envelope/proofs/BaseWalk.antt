@@ -5,7 +5,7 @@ use Rattle.std.proofs.lemmas.List.{map_more, take_all}
 use Rattle.std.proofs.lemmas.List.Sums.{sum_by-take-le}
 use Rattle.std.proofs.lemmas.Bool.{cases_Bool}
 use Rattle.basis.specs.Vocabulary.{is_variable}
-use Rattle.effects.specs.Components.{zeros, sum, exact_sum, size}
+use Rattle.effects.specs.Components.{zeros, sum, exact_sum}
 use Rattle.effects.specs.Laws.{Closed, Laws, Large}
 use Rattle.effects.specs.Supplies.{exact_total}
 use Rattle.effects.specs.Lists.{large_sum}

@@ -1,23 +1,22 @@
 -- One action with chosen parts against the same action in any admissible combination.
-use Rattle.std.proofs.Common.{◌≡◌, ℕ, zero, suc, ◌+◌, ◌^◌, ◌<◌, ◌≤◌, Bool, true, false, cond, not, T, ◌⊎◌, List, [], ◌∷◌, length, get_or, ℤ, Some, None, Option, sym, refl, ap, ◌∙◌, subst, inl, inr, ⊎_elim, arith}
+use Rattle.std.proofs.Common.{◌≡◌, ℕ, ◌^◌, ◌<◌, ◌≤◌, Bool, true, false, cond, T, ◌⊎◌, List, length, ℤ, Some, None, Option, refl, inl, inr, arith}
 use Rattle.basis.specs.declared.category.Category.{Category}
 use Rattle.basis.specs.declared.action.Kind.{Kind}
 use Rattle.basis.specs.declared.action.Kind.TheVariants.{Permanent, Prestress, Variable, Accidental, Seismic}
 use Rattle.basis.specs.declared.action.Spread.{Spread}
 use Rattle.basis.specs.declared.action.Spread.TheVariants.{Fixed, Free, Alternative}
-use Rattle.effects.specs.Components.{zeros, exact_multiple}
-use Rattle.effects.specs.Supplies.{exact_total}
+use Rattle.effects.specs.Components.{exact_multiple}
 use Rattle.effects.specs.Laws.{Closed, Laws, IsFactor}
 use Rattle.basis.specs.Factors.{most}
-use Rattle.rulebooks.specs.Books.{Form, Book}
+use Rattle.rulebooks.specs.Books.{Form}
 use Rattle.envelope.specs.Entries.{has, whole}
 use Rattle.envelope.specs.Combinations.{weighted, factor, at, by_mask}
-use Rattle.envelope.specs.Admissible.{SpreadKept, EventMask, One}
+use Rattle.envelope.specs.Admissible.{SpreadKept, EventMask}
 use Rattle.envelope.specs.Choices.{greatest_part, choice, at_upper, event_choice, event_effect}
-use Rattle.envelope.proofs.Values.{Reaches, Lg, Sm, wider, level, zero_value, multiple_value, multiples}
+use Rattle.envelope.proofs.Values.{Reaches, Sm, wider, level, zero_value, multiple_value, multiples}
 use Rattle.envelope.proofs.Tops.{top_of}
-use Rattle.envelope.proofs.Weights.{Part, Parts, part_at, small_part, total_small, weighted_large, weighted_const}
-use Rattle.envelope.proofs.Choose.{by_mask_fits, choice_best, upper_best, no_part, one_part, all_or_none, large}
+use Rattle.envelope.proofs.Weights.{Parts, part_at, small_part, total_small, weighted_large}
+use Rattle.envelope.proofs.Choose.{choice_best, upper_best, no_part, one_part, all_or_none, large}
 
 -- the laws of a form
 pub record FormLaws (f : Form) : Type 0 where

@@ -1,31 +1,28 @@
 -- Combinations with chosen parts by the places of their variable actions.
-use Rattle.std.proofs.Common.{◌≡◌, ℕ, zero, suc, ◌+◌, ◌-◌, ◌^◌, ◌<◌, ◌≤◌, Bool, true, false, cond, not, ◌&&◌, ◌||◌, T, eqb, ◌⊎◌, List, [], ◌∷◌, map, length, get_or, ℤ, Some, None, Option, sym, refl, ap, ◌∙◌, subst, inl, inr, ⊎_elim, arith}
-use Rattle.std.proofs.lemmas.Bool.{cases_Bool, cases_lt, cases_order, both_ways, and_parts}
+use Rattle.std.proofs.Common.{◌≡◌, ℕ, ◌^◌, ◌<◌, ◌≤◌, Bool, true, false, cond, not, ◌&&◌, eqb, List, ℤ, Option, sym, refl, ap, ◌∙◌, inl, inr, arith}
+use Rattle.std.proofs.lemmas.Bool.{cases_Bool, cases_order, both_ways}
 use Rattle.std.proofs.ByRecursion.{All-weaker}
 use Rattle.std.specs.List.{AllByRecursion as All}
-use Rattle.basis.specs.declared.action.Kind.{Kind}
 use Rattle.basis.specs.declared.action.Kind.TheVariants.{Variable}
-use Rattle.basis.specs.Vocabulary.{is_variable, event_kind}
+use Rattle.basis.specs.Vocabulary.{is_variable}
 use Rattle.effects.specs.Laws.{Closed, Laws}
 use Rattle.rulebooks.specs.Books.{Book}
 use Rattle.sheet.specs.declared.action.Action.{Action}
-use Rattle.sheet.specs.Content.{Content, action_at, variable_at}
+use Rattle.sheet.specs.Content.{Content, variable_at}
 use Rattle.sheet.specs.Limits.{variables}
 use Rattle.envelope.specs.declared.combination.Combination.{Combination}
-use Rattle.envelope.specs.Entries.{Entry, entries, parts_of, has, whole}
+use Rattle.envelope.specs.Entries.{Entry, entries, parts_of, has}
 use Rattle.envelope.specs.Combinations.{mask, present, set_number}
-use Rattle.envelope.specs.Admissible.{Admissible, Led}
 use Rattle.envelope.specs.Choices.{choice}
 use Rattle.envelope.specs.Reported.{with_chosen, chosen_mask, kind_mask}
-use Rattle.envelope.specs.Answers.{event_at_hand}
 use Rattle.envelope.specs.Search.{row, Clear}
 use Rattle.envelope.proofs.Bits.{has_whole, has_none}
 use Rattle.envelope.proofs.Members.{same_bits, empty_bits}
 use Rattle.envelope.proofs.Numbering.{Numbered, numbered, entry_at, at_number, at_action, of_number, bits_of}
-use Rattle.envelope.proofs.Variables.{varies, at_place, place_is, number_ascends, of_place, varies_at, Placed, placed}
+use Rattle.envelope.proofs.Variables.{varies, at_place, place_is, of_place, varies_at, Placed, placed}
 use Rattle.envelope.proofs.Setting.{Setting}
 use Rattle.envelope.proofs.Admitted.{variable_is}
-use Rattle.envelope.proofs.Candidates.{Known, known, chosen_admissible, present_within, set_below}
+use Rattle.envelope.proofs.Candidates.{Known, known, present_within, set_below}
 
 -- a part of a pair
 both : (x y : Bool) → (x && y) ≡ true → (x ≡ true) × (y ≡ true)

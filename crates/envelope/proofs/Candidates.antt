@@ -1,21 +1,19 @@
 -- The combinations with chosen parts, and the reported one among them.
-use Rattle.std.proofs.Common.{◌≡◌, ℕ, zero, suc, ◌+◌, ◌*◌, ◌^◌, ◌<◌, ◌≤◌, Bool, true, false, cond, not, ◌&&◌, ◌||◌, T, eqb, ◌⊎◌, List, [], ◌∷◌, ◌++◌, map, length, get_or, ℤ, Some, None, fold, sum_by, filter, Option, sym, refl, ap, ◌∙◌, subst, inl, inr, ⊎_elim, add-zero, zero-add, add-one, arith}
+use Rattle.std.proofs.Common.{◌≡◌, ℕ, zero, suc, ◌+◌, ◌^◌, ◌<◌, ◌≤◌, Bool, true, false, cond, not, ◌&&◌, ◌||◌, T, eqb, ◌⊎◌, List, [], ◌∷◌, map, length, get_or, ℤ, Some, None, fold, filter, Option, sym, refl, ap, ◌∙◌, subst, inl, inr, add-zero, zero-add, add-one, arith}
 use native.Mathlib.Nat.{two-pow-succ}
 use lib.Ieee.Bits.{is_true}
 use lib.ListN.{length-map}
-use Rattle.std.proofs.lemmas.Nat.{pow_pos, pow_below}
+use Rattle.std.proofs.lemmas.Nat.{pow_pos}
 use Rattle.std.proofs.lemmas.List.{get_or_past}
 use Rattle.std.proofs.lemmas.List.Sums.{sum_by-cons}
-use Rattle.std.proofs.lemmas.Bool.{cases_Bool, cases_lt, eqb-true, eq-eqb, eqb-false, ne_eqb, both_ways, and_parts}
+use Rattle.std.proofs.lemmas.Bool.{cases_Bool, cases_lt, eqb-true, eq-eqb, both_ways, and_parts}
 use Rattle.std.proofs.ByRecursion.{All-weaker, All-append, All-get_or, All-map, all_kept_by, kept_by_passes, has_append_left, has_append_right}
 use Rattle.std.specs.List.{range_with_len, ContainsAt as Has, AllByRecursion as All}
 use Rattle.basis.specs.declared.action.Kind.{Kind}
 use Rattle.basis.specs.declared.action.Kind.TheVariants.{Permanent, Prestress, Variable, Accidental, Seismic}
 use Rattle.basis.specs.Vocabulary.{is_variable, event_kind}
-use Rattle.effects.specs.Components.{zeros}
-use Rattle.effects.specs.Supplies.{exact_total}
 use Rattle.effects.specs.Laws.{Closed, Laws}
-use Rattle.rulebooks.specs.Books.{Form, Book}
+use Rattle.rulebooks.specs.Books.{Book}
 use Rattle.sheet.specs.declared.action.Action.{Action}
 use Rattle.sheet.specs.Content.{Content, action_at, variable_at}
 use Rattle.sheet.specs.Limits.{no_action, variables}
@@ -23,17 +21,16 @@ use Rattle.envelope.specs.declared.combination.Combination.{Combination}
 use Rattle.envelope.specs.Entries.{Entry, entries_from, entries, nowhere, parts_of, acts, has, whole}
 use Rattle.envelope.specs.Combinations.{mask, named, present, set_number, share, effect_of}
 use Rattle.envelope.specs.Admissible.{Admissible, SpreadKept, Led, EventNamed, EventMask, active_parts}
-use Rattle.envelope.specs.Choices.{choice, at_upper, event_choice, event_effect, event_of, first_greatest}
-use Rattle.envelope.specs.Reported.{effect, with_chosen, chosen_mask, kind_mask, chosen_event, numbers, led, fits, candidates, reported, joined, every}
+use Rattle.envelope.specs.Choices.{choice, at_upper, event_choice, event_of}
+use Rattle.envelope.specs.Reported.{with_chosen, chosen_mask, kind_mask, chosen_event, numbers, led, fits, candidates, reported, joined, every}
 use Rattle.envelope.specs.Answers.{event_at_hand}
 use Rattle.envelope.proofs.Bits.{mask_below, has_none}
 use Rattle.envelope.proofs.Values.{Reaches, Lg, wider, chain}
-use Rattle.envelope.proofs.Tops.{Larges}
 use Rattle.envelope.proofs.Numbering.{entry_at, at_number, at_action, Numbered, numbered, of_number, each_number, looked_up, places_length, places_at, entries_length}
-use Rattle.envelope.proofs.Totals.{Share, total_share, entries_sum, all_both}
+use Rattle.envelope.proofs.Totals.{total_share, entries_sum}
 use Rattle.envelope.proofs.Setting.{Setting, Own, owned, is_event, share_value}
 use Rattle.envelope.proofs.Events.{Proper, proper, own_some, Best, best_of, event_worth, worth_large}
-use Rattle.envelope.proofs.Dominance.{acts_parts, event_kind_is, effect_over}
+use Rattle.envelope.proofs.Dominance.{acts_parts, effect_over}
 use Rattle.envelope.proofs.Admitted.{absent_kept, upper_kept, choice_kept, event_kept, cond_below, choice_below, upper_below, event_below, either_event_of, admitted, variable_is, same_sum}
 use Rattle.envelope.proofs.Mended.{mended, everywhere}
 

@@ -1,21 +1,20 @@
 -- No choice of an action's parts that the rules allow gives more than the choice by the ranking.
-use Rattle.std.proofs.Common.{◌≡◌, ℕ, zero, suc, ◌+◌, ◌^◌, ◌<◌, ◌≤◌, Bool, true, false, cond, not, T, ◌⊎◌, List, [], ◌∷◌, length, get_or, ℤ, sym, refl, ap, ◌∙◌, subst, inl, inr, ⊎_elim, arith}
+use Rattle.std.proofs.Common.{◌≡◌, ℕ, ◌^◌, ◌<◌, ◌≤◌, Bool, true, false, cond, T, ◌⊎◌, List, [], length, get_or, ℤ, sym, refl, ap, ◌∙◌, inl, inr, arith}
 use Rattle.std.proofs.lemmas.Bool.{cases_Bool, cases_lt}
 use Rattle.std.proofs.ByRecursion.{All-weaker}
-use Rattle.std.specs.List.{AllByRecursion as All}
 use Rattle.basis.specs.declared.action.Spread.{Spread}
 use Rattle.basis.specs.declared.action.Spread.TheVariants.{Fixed, Free, Alternative}
 use Rattle.effects.specs.Components.{zeros, exact_multiple}
 use Rattle.effects.specs.Supplies.{exact_total}
 use Rattle.effects.specs.Laws.{Closed, Laws, IsFactor}
-use Rattle.envelope.specs.Entries.{has, mask_of, whole}
+use Rattle.envelope.specs.Entries.{has, whole}
 use Rattle.envelope.specs.Combinations.{weighted, by_mask}
 use Rattle.envelope.specs.Admissible.{SpreadKept, One}
-use Rattle.envelope.specs.Choices.{above_zero, greatest_part, choice, at_upper, event_choice, event_effect}
+use Rattle.envelope.specs.Choices.{above_zero, greatest_part, choice, at_upper}
 use Rattle.envelope.proofs.Bits.{has_mask, has_whole, has_none, has_power_same, has_power_other}
-use Rattle.envelope.proofs.Values.{Value, Reaches, Lg, Sm, wider, zero_value, level, chain, multiple_value, multiples}
-use Rattle.envelope.proofs.Tops.{Larges, Top, top_of}
-use Rattle.envelope.proofs.Weights.{Part, Parts, part_at, total_small, small_part, weighted_const, weighted_same, weighted_value, weighted_large, weighted_reaches, weighted_none, weighted_one, best_factor, nothing}
+use Rattle.envelope.proofs.Values.{Reaches, Lg, wider, zero_value, level, chain, multiple_value, multiples}
+use Rattle.envelope.proofs.Tops.{Larges, top_of}
+use Rattle.envelope.proofs.Weights.{Part, Parts, part_at, total_small, small_part, weighted_const, weighted_reaches, weighted_none, weighted_one, best_factor, nothing}
 
 pub by_mask_fits : (hi lo m p : ℕ) → IsFactor hi → lo ≤ hi → IsFactor (by_mask hi lo m p)
 by_mask_fits hi lo m p f l = elim (cases_Bool (has m p)) [ inl e ↦ rw e f | inr e ↦ rw e (omega arith) ]

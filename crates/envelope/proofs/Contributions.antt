@@ -1,5 +1,5 @@
 -- What a variable action adds in a combination with chosen parts is its contribution.
-use Rattle.std.proofs.Common.{◌≡◌, ℕ, zero, suc, ◌+◌, ◌<◌, ◌≤◌, Bool, true, false, cond, not, ◌⊎◌, List, [], ◌∷◌, map, length, get_or, ℤ, pos, ◌+ℤ◌, ◌*ℤ◌, Some, None, Option, sym, refl, ap, ◌∙◌, subst, inl, inr, arith}
+use Rattle.std.proofs.Common.{◌≡◌, ℕ, suc, Bool, true, false, cond, List, [], ◌∷◌, map, length, ℤ, pos, ◌*ℤ◌, None, Option, sym, refl, ap, ◌∙◌, inl, inr}
 use lib.IntN.{*ℤ-one, *ℤ_comm, *ℤ-zero, zero-*ℤ}
 use Rattle.std.proofs.lemmas.Bool.{cases_Bool, both_ways}
 use Rattle.std.proofs.ByRecursion.{All-weaker}
@@ -13,9 +13,8 @@ use Rattle.effects.specs.Lists.{zeros_multiple, zeros_sum}
 use Rattle.effects.proofs.Totals.{sum_zeros}
 use Rattle.rulebooks.specs.Books.{Form, Book}
 use Rattle.sheet.specs.Content.{Content}
-use Rattle.envelope.specs.declared.combination.Combination.{Combination}
 use Rattle.envelope.specs.Entries.{Entry, entries, parts_of, has}
-use Rattle.envelope.specs.Combinations.{mask, named, weighted, at, share, factor, effect_of, by_mask}
+use Rattle.envelope.specs.Combinations.{mask, named, weighted, share, factor, effect_of, by_mask}
 use Rattle.envelope.specs.Choices.{choice}
 use Rattle.envelope.specs.Reported.{with_chosen, kind_mask, base_share}
 use Rattle.envelope.specs.Answers.{contribution}
@@ -25,7 +24,7 @@ use Rattle.envelope.proofs.Totals.{total_same, total_split, all_both}
 use Rattle.envelope.proofs.Admitted.{variable_is}
 use Rattle.envelope.proofs.Choose.{no_part}
 use Rattle.envelope.proofs.ByKind.{role}
-use Rattle.envelope.proofs.Setting.{Setting, Own, share_active, share_none, share_value}
+use Rattle.envelope.proofs.Setting.{Setting, share_active, share_none, share_value}
 use Rattle.envelope.proofs.Candidates.{Known, known, mask_on}
 
 pub once : (xs : List ℤ) → exact_multiple 1 xs ≡ xs

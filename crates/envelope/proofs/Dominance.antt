@@ -1,16 +1,15 @@
 -- No admissible combination gives more than the same one with its parts replaced by the chosen ones.
-use Rattle.std.proofs.Common.{◌≡◌, ℕ, zero, suc, ◌+◌, ◌*◌, ◌^◌, ◌<◌, ◌≤◌, Bool, true, false, cond, not, ◌&&◌, ◌||◌, T, eqb, ◌⊎◌, List, [], ◌∷◌, map, length, get_or, ℤ, Some, None, sum_by, Option, sym, refl, ap, ◌∙◌, subst, inl, inr, ⊎_elim, add-mul, arith}
+use Rattle.std.proofs.Common.{◌≡◌, ℕ, ◌*◌, ◌<◌, ◌≤◌, Bool, true, false, cond, ◌||◌, T, List, map, length, ℤ, Some, None, sum_by, Option, sym, refl, ap, ◌∙◌, subst, inl, inr, arith}
 use lib.Ieee.Bits.{is_true}
 use Rattle.basis.specs.Vocabulary.{kind_of, kind_number, same_kind, event_kind}
 use Rattle.std.proofs.lemmas.List.{get_or_past}
-use Rattle.std.proofs.lemmas.Bool.{cases_Bool, cases_lt, eqb-true, eq-eqb, eqb-false, ne_eqb, both_ways, and_parts}
+use Rattle.std.proofs.lemmas.Bool.{cases_Bool, cases_lt, eqb-true, eq-eqb, ne_eqb, both_ways, and_parts}
 use Rattle.std.proofs.ByRecursion.{All-weaker}
-use Rattle.std.specs.List.{AllByRecursion as All}
 use Rattle.basis.specs.declared.action.Kind.{Kind}
 use Rattle.basis.specs.declared.action.Kind.TheVariants.{Permanent, Prestress, Variable, Accidental, Seismic}
 use Rattle.basis.specs.declared.situation.Situation.{Situation}
 use Rattle.basis.specs.declared.situation.Situation.TheVariants.{Persistent as InPersistent, Accidental as InAccidental, Seismic as InSeismic, Serviceability as InService}
-use Rattle.effects.specs.Components.{zeros, exact_sum, exact_multiple}
+use Rattle.effects.specs.Components.{zeros, exact_multiple}
 use Rattle.effects.specs.Supplies.{exact_total}
 use Rattle.effects.specs.Laws.{Closed, Laws}
 use Rattle.rulebooks.specs.Books.{Form, Book}
@@ -21,15 +20,14 @@ use Rattle.envelope.specs.declared.combination.Combination.{Combination}
 use Rattle.envelope.specs.Entries.{Entry, entries, parts_of, acts, has}
 use Rattle.envelope.specs.Combinations.{mask, named, share, weighted, factor, effect_of, by_mask}
 use Rattle.envelope.specs.Admissible.{Admissible, EventNamed, EventMask}
-use Rattle.envelope.specs.Choices.{event_choice, event_effect, event_of}
-use Rattle.envelope.specs.Reported.{chosen_event}
+use Rattle.envelope.specs.Choices.{event_choice, event_of}
 use Rattle.envelope.proofs.Values.{Reaches, Lg, zero_value, level, wider, long, sums, chain, multiples, multiple_value}
 use Rattle.envelope.proofs.Choose.{no_part}
-use Rattle.envelope.proofs.Numbering.{entry_at, at_number, at_action, Numbered, of_number}
-use Rattle.envelope.proofs.Totals.{Share, Improves, Only, total_improves, total_share, total_none, total-one, entries_sum}
+use Rattle.envelope.proofs.Numbering.{entry_at, at_number, at_action, of_number}
+use Rattle.envelope.proofs.Totals.{Share, total_improves, total_share, total_none, total-one, entries_sum}
 use Rattle.envelope.proofs.ByKind.{event_small, event_acting, event_best}
 use Rattle.envelope.proofs.Setting.{Setting, Own, is_event, share_value, share_active, share_none, rest_share, event_share, rest_parts, event_parts, effect_split, parts_split, rest_value, event_value}
-use Rattle.envelope.proofs.Mended.{Facts, facts, mended, mask_by, rest_improves, acts_of}
+use Rattle.envelope.proofs.Mended.{Facts, facts, mended, mask_by, rest_improves}
 use Rattle.envelope.proofs.Events.{event_worth, own_some, Chosen, chosen, Proper, proper}
 
 event_by : (k : Kind) (a : Action) → a.active ≡ true → a.kind ≡ k → is_event k ≡ true → T (acts Accidental a || acts Seismic a)

@@ -1,20 +1,18 @@
 -- The event with the greatest effect.
-use Rattle.std.proofs.Common.{◌≡◌, ℕ, zero, suc, ◌+◌, ◌*◌, ◌^◌, ◌<◌, ◌≤◌, Bool, true, false, cond, not, ◌&&◌, ◌||◌, T, eqb, ◌⊎◌, List, [], ◌∷◌, map, length, get_or, ℤ, Some, None, filter, Option, sym, refl, ap, ◌∙◌, subst, inl, inr, ⊎_elim, arith}
+use Rattle.std.proofs.Common.{◌≡◌, ℕ, zero, suc, ◌<◌, ◌≤◌, Bool, true, false, List, [], ◌∷◌, map, length, get_or, ℤ, Some, None, filter, Option, refl, ap, subst, inl, inr, arith}
 use lib.ListN.{length-map}
 use Rattle.std.proofs.lemmas.List.{get_or-map}
-use Rattle.std.proofs.lemmas.Bool.{cases_Bool, cases_lt}
+use Rattle.std.proofs.lemmas.Bool.{cases_Bool}
 use Rattle.std.proofs.ByRecursion.{All-get_or, All-weaker, All-map, all_kept_by, kept_by_passes}
 use Rattle.std.specs.List.{AllByRecursion as All, slice_get}
 use Rattle.basis.specs.declared.action.Kind.{Kind}
-use Rattle.effects.specs.Components.{zeros}
-use Rattle.effects.specs.Supplies.{exact_total}
 use Rattle.effects.specs.Laws.{Closed, Laws}
-use Rattle.rulebooks.specs.Books.{Form, Book}
+use Rattle.rulebooks.specs.Books.{Book}
 use Rattle.sheet.specs.Content.{Content}
 use Rattle.envelope.specs.Entries.{Entry, entries, nowhere, parts_of, acts}
 use Rattle.envelope.specs.Choices.{greatest_part, first_greatest, event_effect, event_of}
-use Rattle.envelope.proofs.Values.{Reaches, Lg, Sm, wider}
-use Rattle.envelope.proofs.Tops.{Larges, Top, top_of}
+use Rattle.envelope.proofs.Values.{Reaches, Lg, wider}
+use Rattle.envelope.proofs.Tops.{Larges, top_of}
 use Rattle.envelope.proofs.ByKind.{event_small}
 use Rattle.envelope.proofs.Numbering.{entry_at, Numbered, numbered, entries_length}
 use Rattle.envelope.proofs.Totals.{all_both}

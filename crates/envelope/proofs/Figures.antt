@@ -1,12 +1,11 @@
 -- The worked figures, by computation.
-use Rattle.std.proofs.Common.{◌≡◌, ℕ, zero, suc, ◌^◌, ◌<◌, true, false, get_or, replicate, sym, refl, ap, inl, inr, arith}
+use Rattle.std.proofs.Common.{◌≡◌, ℕ, zero, suc, ◌^◌, ◌<◌, false, get_or, replicate, refl, inr, arith}
 use Rattle.std.proofs.lemmas.Bool.{both_ways}
-use Rattle.rulebooks.specs.Table.{str}
 use Rattle.sheet.specs.Content.{action_at}
 use Rattle.envelope.specs.Combinations.{mask}
-use Rattle.envelope.specs.Admissible.{Admissible, active_parts}
+use Rattle.envelope.specs.Admissible.{active_parts}
 use Rattle.sheet.specs.Histories.{ends, edits, issues, reopens, asks}
-use Rattle.envelope.specs.Figures.{Figures, ToldApart, frame, both_present, absent_leader}
+use Rattle.envelope.specs.Figures.{Figures, ToldApart, frame, both_present}
 
 pub figures : Figures
 figures = record {

@@ -1,5 +1,5 @@
 -- The best combination over all forms.
-use Rattle.std.proofs.Common.{◌≡◌, ℕ, ◌+◌, ◌<◌, ◌≤◌, Bool, true, false, not, T, ◌⊎◌, List, map, drop, ℤ, Option, sym, refl, ap, ◌∙◌, subst, inl, inr, ⊎_elim, arith, T_not}
+use Rattle.std.proofs.Common.{◌≡◌, ℕ, ◌+◌, ◌<◌, Bool, true, false, List, map, drop, ℤ, Option, sym, ap, ◌∙◌, subst, inl, inr, ⊎_elim, arith}
 use lib.Dec.{not_T}
 use lib.Ieee.Bits.{is_true}
 use Rattle.std.proofs.lemmas.List.{drop-map}
@@ -9,8 +9,7 @@ use Rattle.rulebooks.specs.Books.{Book}
 use Rattle.sheet.specs.Content.{Content}
 use Rattle.envelope.specs.declared.combination.Combination.{Combination}
 use Rattle.envelope.specs.Combinations.{effect_of}
-use Rattle.envelope.specs.Admissible.{Admissible}
-use Rattle.envelope.specs.Reported.{before, with_chosen, Chosen, Reported}
+use Rattle.envelope.specs.Reported.{before, with_chosen, Reported}
 use Rattle.envelope.specs.Forms.{BestAmong}
 use Rattle.envelope.proofs.Values.{Reaches, Lg, chain, total}
 use Rattle.envelope.proofs.Setting.{Setting}

@@ -1,9 +1,9 @@
 -- What the code finds by place, and what it fills the strip with, in the words of the definitions.
-use Rattle.std.proofs.Common.{◌≡◌, ℕ, zero, suc, ◌+◌, ◌-◌, ◌*◌, ◌^◌, ◌<◌, ◌≤◌, Bool, true, false, cond, not, ◌&&◌, T, eqb, ◌⊎◌, List, [], ◌∷◌, ◌++◌, map, length, get_or, ℤ, Some, None, sum_by, filter, Option, sym, refl, ap, ◌∙◌, subst, inl, inr, arith, pow_mono}
+use Rattle.std.proofs.Common.{◌≡◌, ℕ, zero, suc, ◌-◌, ◌^◌, ◌<◌, ◌≤◌, Bool, true, false, cond, not, ◌&&◌, eqb, List, [], ◌∷◌, ◌++◌, map, length, get_or, ℤ, None, filter, Option, sym, refl, ap, ◌∙◌, inl, inr, arith}
 use lib.ListN.{length-map}
-use Rattle.std.proofs.lemmas.List.{get_or-map, get_or_past}
-use Rattle.std.proofs.lemmas.Bool.{cases_Bool, cases_lt, both_ways}
-use Rattle.std.proofs.ByRecursion.{All-weaker, all_kept_by}
+use Rattle.std.proofs.lemmas.List.{get_or-map}
+use Rattle.std.proofs.lemmas.Bool.{cases_Bool}
+use Rattle.std.proofs.ByRecursion.{All-weaker}
 use Rattle.std.specs.List.{AllByRecursion as All}
 use Rattle.basis.specs.declared.action.Kind.TheVariants.{Variable}
 use Rattle.basis.specs.Vocabulary.{is_variable}
@@ -15,12 +15,12 @@ use Rattle.sheet.specs.Content.{Content}
 use Rattle.sheet.specs.Limits.{variables}
 use Rattle.envelope.specs.declared.strip.Role.TheVariants.{Leading, Accompanying}
 use Rattle.envelope.specs.Places.{places}
-use Rattle.envelope.specs.Entries.{Entry, entries, parts_of, has, whole, nowhere}
+use Rattle.envelope.specs.Entries.{Entry, entries, parts_of, has, nowhere}
 use Rattle.envelope.specs.Combinations.{weighted, at}
 use Rattle.envelope.specs.Choices.{choice}
 use Rattle.envelope.specs.Reported.{with_chosen, chosen_mask, kind_mask}
-use Rattle.envelope.specs.Answers.{contribution, half, last_form, strip_after}
-use Rattle.envelope.specs.Search.{row, Clear}
+use Rattle.envelope.specs.Answers.{contribution, half, strip_after}
+use Rattle.envelope.specs.Search.{Clear}
 use Rattle.envelope.specs.Layout.{numbers_at, clash_rows, choice_set, has_choice, mask_in, role_factor, contribution_by, half_by, role_half, both_halves}
 use Rattle.envelope.proofs.Bits.{has_whole, has_none}
 use Rattle.envelope.proofs.Numbering.{Numbered, numbered, bits_of, looked_up, places_length}
@@ -28,7 +28,6 @@ use Rattle.envelope.proofs.Totals.{all_both}
 use Rattle.envelope.proofs.Weights.{weighted_none}
 use Rattle.envelope.proofs.Setting.{Setting, Own, owned}
 use Rattle.envelope.proofs.Admitted.{variable_is}
-use Rattle.envelope.proofs.Candidates.{Known, known}
 use Rattle.envelope.proofs.Variables.{varies, varying, at_place, places_of, place_is, of_place, varies_at, Placed, placed}
 use Rattle.envelope.proofs.Choosable.{choice_below, row_has}
 use Rattle.envelope.proofs.ByPlace.{ByPlace, full_mask}

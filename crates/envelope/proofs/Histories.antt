@@ -1,11 +1,9 @@
 -- A run of which only growing calls were accepted leaves a sheet that has only grown.
-use Rattle.std.proofs.Common.{◌≡◌, ℕ, zero, suc, ◌+◌, ◌<◌, ◌≤◌, Bool, true, false, cond, not, ◌&&◌, ◌||◌, T, eqb, ltb, leb, ◌⊎◌, List, [], ◌∷◌, ◌++◌, map, length, get_or, set, Some, None, Option, sym, refl, ap, ◌∙◌, subst, inl, inr, ⊎_elim, arith}
+use Rattle.std.proofs.Common.{◌≡◌, ℕ, zero, suc, ◌≤◌, Bool, true, false, cond, not, ◌||◌, T, eqb, leb, ◌⊎◌, List, [], ◌∷◌, ◌++◌, length, get_or, set, Some, None, Option, sym, refl, ap, ◌∙◌, subst, inl, inr, arith}
 use lib.Ieee.Bits.{is_true}
 use Rattle.std.proofs.lemmas.Bool.{cases_Bool, eqb-true, leb-true, not-true, both_ways}
-use Rattle.std.specs.List.{AllByRecursion as All}
 use Rattle.basis.specs.declared.action.Kind.{Kind}
 use Rattle.basis.specs.declared.action.Kind.TheVariants.{Permanent, Prestress, Variable, Accidental, Seismic}
-use Rattle.basis.specs.declared.category.Category.{Category}
 use Rattle.basis.specs.Vocabulary.{kind_of, kind_number}
 use Rattle.sheet.specs.declared.action.Action.{Action}
 use Rattle.sheet.specs.Answers.{Answer, granted, denied}
@@ -15,7 +13,7 @@ use Rattle.sheet.specs.Calls.{settled, described, admitted, pair_to_mark, to_swi
 use Rattle.sheet.proofs.Questions.{described_yes}
 use Rattle.sheet.proofs.Laws.{laws, admitted_yes, switch_yes}
 use Rattle.envelope.proofs.Growth.{gains, Resumed, Grown, Extends}
-use Rattle.sheet.specs.Histories.{Edit, enter, exclude, lift, recast, suspend, resume, Call, State, draft, issued, held, accepted, edited, Runs, ends, edits, issues, reopens, asks}
+use Rattle.sheet.specs.Histories.{Edit, enter, exclude, lift, recast, suspend, resume, Call, State, draft, issued, held, accepted, edited, ends, edits, issues, reopens, asks}
 use Rattle.envelope.specs.Histories.{growing, Grows}
 
 -- growth is a preorder

@@ -1,12 +1,11 @@
 -- The best combination of a form, from what the code has at hand.
-use Rattle.std.proofs.Common.{◌≡◌, ℕ, ◌+◌, ◌-◌, ◌^◌, ◌<◌, ◌≤◌, Bool, true, false, cond, ◌||◌, T, ◌⊎◌, List, [], ◌∷◌, ◌++◌, map, length, get_or, take, drop, ℤ, IfSome, Some, None, Option, sym, refl, ap, ◌∙◌, subst, inl, inr, arith, length-append, pow_mono}
+use Rattle.std.proofs.Common.{◌≡◌, ℕ, ◌+◌, ◌-◌, ◌^◌, ◌<◌, ◌≤◌, Bool, true, false, ◌||◌, T, List, [], ◌++◌, map, length, get_or, take, drop, ℤ, IfSome, Some, None, Option, sym, refl, ap, ◌∙◌, subst, inl, inr, arith, length-append, pow_mono}
 use lib.Bits.{bit_or}
-use lib.ListN.{length-map}
 use Rattle.std.proofs.lemmas.List.{take-map, drop-map, take-append-le, drop-append-le, take_all, drop_all}
 use Rattle.std.proofs.lemmas.Bool.{cases_lt}
 use Rattle.std.specs.Option.{option_map}
 use Rattle.basis.specs.Vocabulary.{event_kind}
-use Rattle.effects.specs.Components.{zeros, exact_sum, size}
+use Rattle.effects.specs.Components.{zeros, size}
 use Rattle.effects.specs.Lists.{exact_sum_size}
 use Rattle.effects.specs.Supplies.{exact_total}
 use Rattle.effects.specs.Laws.{Closed, Laws}
@@ -22,7 +21,7 @@ use Rattle.envelope.specs.Combinations.{effect_of}
 use Rattle.envelope.specs.Reported.{with_chosen, base_share}
 use Rattle.envelope.specs.Answers.{event_at_hand}
 use Rattle.envelope.specs.Search.{row, weight}
-use Rattle.envelope.specs.Layout.{numbers_at, role_factor, role_half, both_halves, roster_by}
+use Rattle.envelope.specs.Layout.{role_factor, role_half, both_halves, roster_by}
 use Rattle.envelope.specs.Leaders.{Given, MayLead, banned, start, worth, leader_bit, given_by, Searchable, BestSet}
 use Rattle.envelope.specs.Forms.{BestAmong}
 use Rattle.envelope.proofs.Values.{level, zero_value}

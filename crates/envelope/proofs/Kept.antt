@@ -1,26 +1,23 @@
 -- What an envelope promises, from what its code does.
-use Rattle.std.proofs.Common.{◌≡◌, ℕ, ◌≤◌, Bool, T, List, [], ◌∷◌, ◌++◌, map, length, drop, ℤ, Err, Result, sym, refl, ap, ◌∙◌, subst, inl, inr, arith}
+use Rattle.std.proofs.Common.{◌≡◌, ℕ, Bool, T, List, ◌∷◌, ◌++◌, map, length, drop, ℤ, Err, sym, refl, ap, ◌∙◌, subst}
 use lib.ListN.{length-map}
-use Rattle.std.specs.List.{AllByRecursion as All}
 use Rattle.effects.specs.Laws.{Closed, Laws}
 use Rattle.rulebooks.specs.Books.{Book}
-use Rattle.sheet.specs.Content.{Content, blank}
-use Rattle.sheet.specs.Histories.{Edit, Call, edit, issue, reopen, envelope, State, draft, issued, Runs, ends, edits, issues, reopens, asks, Leaves}
+use Rattle.sheet.specs.Content.{Content}
+use Rattle.sheet.specs.Histories.{Edit, Call, edit, issue, reopen, envelope, State, issued, Runs, ends, edits, issues, reopens, asks, Leaves}
 use Rattle.sheet.specs.Laws.{Sound as SoundSheet}
 use Rattle.sheet.proofs.Laws.{laws as sheet_laws}
 use Rattle.envelope.specs.declared.combination.Combination.{Combination}
-use Rattle.envelope.specs.declared.combination.Extreme.{Extreme}
 use Rattle.envelope.specs.declared.combination.Refusal.{Refusal}
 use Rattle.envelope.specs.declared.combination.Refusal.TheVariants.{NotAsManyEffects, ShortStrip, TooLarge, NoEvent}
 use Rattle.envelope.specs.Combinations.{effect_of}
 use Rattle.envelope.specs.Admissible.{Admissible}
 use Rattle.envelope.specs.Reported.{Reported}
-use Rattle.envelope.specs.Answers.{Reply, found, refused, refused_at, reply_of, answer, strip_after}
+use Rattle.envelope.specs.Answers.{Reply, found, reply_of, answer, strip_after}
 use Rattle.envelope.specs.Supplied.{Supplied, Accepted}
-use Rattle.envelope.specs.Promise.{OfFound, NothingOutranks, BreaksNoRule, AsReported, NoOtherIsReported, strip_by, Unchanged, Envelope, WholePromise}
+use Rattle.envelope.specs.Promise.{OfFound, NothingOutranks, BreaksNoRule, AsReported, NoOtherIsReported, strip_by, Unchanged, WholePromise}
 use Rattle.envelope.specs.Runs as run
 use Rattle.envelope.specs.Runs.{Step, Run, Any, Growing, RunLaw}
-use Rattle.envelope.proofs.Ground.{sound_of}
 use Rattle.envelope.proofs.Promised.{Sound, BookLaws, small_all, formed_all, as_reported, no_other_is_reported, nothing_outranks, breaks_no_rule, not_sunk, stays_admissible, found_answer}
 use Rattle.envelope.proofs.Histories.{grows_extends}
 

@@ -1,29 +1,25 @@
 -- An admissible combination with its parts replaced by the chosen ones.
-use Rattle.std.proofs.Common.{◌≡◌, ℕ, zero, suc, ◌+◌, ◌*◌, ◌^◌, ◌<◌, ◌≤◌, Bool, true, false, cond, not, ◌&&◌, ◌||◌, T, eqb, ◌⊎◌, List, [], ◌∷◌, map, length, get_or, ℤ, Some, None, sum_by, Option, sym, refl, ap, ◌∙◌, subst, inl, inr, ⊎_elim, arith}
-use Rattle.std.proofs.lemmas.Bool.{cases_Bool, cases_lt, eqb-true, eq-eqb, eqb-false, ne_eqb, both_ways}
-use Rattle.std.proofs.ByRecursion.{All-weaker}
+use Rattle.std.proofs.Common.{◌≡◌, ℕ, ◌^◌, Bool, true, false, cond, not, ◌&&◌, ◌||◌, T, eqb, ◌⊎◌, List, [], ◌∷◌, ℤ, Some, None, sum_by, Option, refl, ap, ◌∙◌, inl, inr, arith}
+use Rattle.std.proofs.lemmas.Bool.{cases_Bool, eqb-true, eq-eqb, both_ways}
 use Rattle.std.specs.List.{AllByRecursion as All}
 use Rattle.basis.specs.declared.action.Kind.{Kind}
 use Rattle.basis.specs.declared.action.Kind.TheVariants.{Permanent, Prestress, Variable, Accidental, Seismic}
 use Rattle.basis.specs.Vocabulary.{is_variable}
-use Rattle.effects.specs.Components.{zeros}
-use Rattle.effects.specs.Supplies.{exact_total}
 use Rattle.effects.specs.Laws.{Closed, Laws}
 use Rattle.rulebooks.specs.Books.{Form, Book}
 use Rattle.sheet.specs.declared.action.Action.{Action}
-use Rattle.sheet.specs.Content.{Content, action_at, variable_at}
+use Rattle.sheet.specs.Content.{Content}
 use Rattle.envelope.specs.declared.combination.Combination.{Combination}
 use Rattle.envelope.specs.Entries.{Entry, entries, parts_of, acts, has, whole}
-use Rattle.envelope.specs.Combinations.{mask, named, present, set_number, share, weighted, factor}
-use Rattle.envelope.specs.Admissible.{Admissible, OfEach, SpreadKept, EventMask}
-use Rattle.envelope.specs.Choices.{choice, at_upper}
-use Rattle.envelope.specs.Reported.{with_chosen, chosen_mask, kind_mask, chosen_event}
-use Rattle.envelope.proofs.Values.{Reaches, zero_value, level, wider}
-use Rattle.envelope.proofs.Weights.{weighted_large}
-use Rattle.envelope.proofs.Numbering.{entry_at, at_number, Numbered, numbered, of_number, each_number, looked_up, bits_of, sum_of}
-use Rattle.envelope.proofs.Totals.{Improves, total_improves, Share}
-use Rattle.envelope.proofs.ByKind.{FormLaws, Rule, kind_best, acting}
-use Rattle.envelope.proofs.Setting.{Setting, Own, owned, is_event, rest_share, rest_parts, rest_value, share_value, share_active, share_none}
+use Rattle.envelope.specs.Combinations.{mask, named, share}
+use Rattle.envelope.specs.Admissible.{Admissible, SpreadKept, EventMask}
+use Rattle.envelope.specs.Choices.{choice}
+use Rattle.envelope.specs.Reported.{with_chosen, chosen_mask, kind_mask}
+use Rattle.envelope.proofs.Values.{Reaches, zero_value, level}
+use Rattle.envelope.proofs.Numbering.{entry_at, Numbered, numbered, of_number, each_number, looked_up, bits_of}
+use Rattle.envelope.proofs.Totals.{Improves}
+use Rattle.envelope.proofs.ByKind.{Rule, kind_best}
+use Rattle.envelope.proofs.Setting.{Setting, Own, owned, is_event, rest_share, rest_parts, rest_value, share_active, share_none}
 
 pub everywhere : {A : Type 0} (P : A → Type 0) → ((a : A) → P a) → (list : List A) → All P list
 everywhere P h [] = tt

@@ -1,18 +1,18 @@
 -- The entries of a sheet by number and by place.
-use Rattle.std.proofs.Common.{◌≡◌, ℕ, zero, suc, ◌+◌, ◌^◌, ◌<◌, ◌≤◌, Bool, true, false, cond, not, ◌&&◌, T, ◌⊎◌, List, [], ◌∷◌, map, length, get_or, take, drop, fold, sum_by, sym, refl, ap, ◌∙◌, subst, inl, inr, add-zero, zero-add, arith, length-drop, length-take}
+use Rattle.std.proofs.Common.{◌≡◌, ℕ, zero, suc, ◌+◌, ◌^◌, ◌<◌, ◌≤◌, Bool, true, false, cond, T, List, [], ◌∷◌, map, length, get_or, fold, sym, refl, ap, ◌∙◌, inl, inr, add-zero, zero-add, arith}
 use native.Mathlib.Nat.{two-pow-succ}
 use Rattle.std.proofs.lemmas.List.{get_or-map}
 use Rattle.std.proofs.lemmas.List.Sums.{sum_by-cons}
 use Rattle.std.proofs.ByRecursion.{All-get_or, All-from_get_or, All-weaker}
-use Rattle.std.proofs.lemmas.Bool.{cases_Bool, cases_lt}
+use Rattle.std.proofs.lemmas.Bool.{cases_Bool}
 use Rattle.std.specs.List.{AllByRecursion as All}
 use Rattle.basis.specs.Vocabulary.{is_variable}
 use Rattle.sheet.specs.declared.action.Action.{Action}
 use Rattle.sheet.specs.Content.{Content, action_at}
 use Rattle.sheet.specs.Limits.{no_action, parts_in}
 use Rattle.envelope.specs.Places.{places}
-use Rattle.envelope.specs.Entries.{Entry, entries_from, entries, nowhere, parts_of, has}
-use Rattle.envelope.proofs.Bits.{has_below, has_joined, has_others, has_more}
+use Rattle.envelope.specs.Entries.{Entry, entries_from, entries, nowhere, has}
+use Rattle.envelope.proofs.Bits.{has_more}
 
 pub entries_length : (i k p : ℕ) (list : List Action) → length (entries_from i k p list) ≡ length list
 entries_length i k p [] = refl

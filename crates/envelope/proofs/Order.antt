@@ -1,10 +1,10 @@
 -- The order of combinations, and the reported one as the first greatest.
-use Rattle.std.proofs.Common.{◌≡◌, ℕ, zero, suc, ◌+◌, ◌^◌, ◌<◌, ◌≤◌, Bool, true, false, cond, not, ◌&&◌, ◌||◌, T, eqb, ltb, ◌⊎◌, List, [], ◌∷◌, ◌++◌, map, length, get_or, ℤ, Some, None, Option, sym, refl, ap, ◌∙◌, subst, inl, inr, ⊎_elim, arith, T_not}
+use Rattle.std.proofs.Common.{◌≡◌, ℕ, zero, suc, ◌+◌, ◌^◌, ◌<◌, ◌≤◌, Bool, true, false, cond, ◌&&◌, ◌||◌, T, eqb, ltb, ◌⊎◌, List, [], ◌∷◌, ◌++◌, map, length, get_or, ℤ, Some, None, Option, sym, refl, ap, ◌∙◌, subst, inl, inr, arith, T_not}
 use lib.Dec.{not_T}
 use lib.Ieee.Bits.{is_true}
-use Rattle.std.proofs.lemmas.Bool.{cases_Bool, cases_lt, cases_order, eq-eqb, ne_eqb, lt-ltb, le-ltb, both_ways}
+use Rattle.std.proofs.lemmas.Bool.{cases_Bool, cases_order, eq-eqb, ne_eqb, lt-ltb, le-ltb, both_ways}
 use Rattle.std.proofs.ByRecursion.{All-weaker, All-append, All-get_or}
-use Rattle.std.specs.List.{range_with_len, ContainsAt as Has, AllByRecursion as All}
+use Rattle.std.specs.List.{range_with_len, AllByRecursion as All}
 use Rattle.effects.specs.Laws.{Closed, Laws}
 use Rattle.rulebooks.specs.Books.{Book}
 use Rattle.sheet.specs.Content.{Content}
@@ -15,7 +15,6 @@ use Rattle.envelope.specs.Admissible.{Admissible}
 use Rattle.basis.specs.Vocabulary.{event_kind}
 use Rattle.envelope.specs.Reported.{before, leader_order, joined, with_chosen, fits, candidates, numbers, reported, Reported}
 use Rattle.envelope.specs.Answers.{event_at_hand}
-use Rattle.envelope.proofs.Values.{Reaches}
 use Rattle.envelope.proofs.Setting.{Setting}
 use Rattle.envelope.proofs.Mended.{everywhere}
 use Rattle.envelope.proofs.Candidates.{all_good, Good, listed, best, reported_is, reported_good, reported_over, all_joined}

@@ -1,9 +1,9 @@
 -- A combination stays admissible, with the same effect, on a sheet that has only grown.
-use Rattle.std.proofs.Common.{◌≡◌, ℕ, zero, suc, ◌+◌, ◌*◌, ◌^◌, ◌<◌, ◌≤◌, Bool, true, false, cond, not, ◌&&◌, ◌||◌, T, eqb, ◌⊎◌, List, [], ◌∷◌, ◌++◌, map, length, get_or, take, drop, ℤ, Some, None, fold, sum_by, Option, sym, refl, ap, ◌∙◌, subst, inl, inr, ⊎_elim, add-zero, arith, length-drop}
+use Rattle.std.proofs.Common.{◌≡◌, ℕ, zero, suc, ◌+◌, ◌^◌, ◌<◌, ◌≤◌, Bool, true, false, cond, not, ◌&&◌, T, eqb, List, [], ◌∷◌, ◌++◌, map, length, get_or, take, drop, ℤ, Some, None, fold, sum_by, Option, sym, refl, ap, ◌∙◌, subst, inl, inr, add-zero, arith, length-drop}
 use lib.Ieee.Bits.{is_true}
 use Rattle.std.proofs.lemmas.Nat.{pow_pos}
 use Rattle.std.proofs.lemmas.List.{get_or_past, take-append-le, drop-append-le}
-use Rattle.std.proofs.lemmas.Bool.{cases_Bool, cases_lt, eqb-true, eq-eqb, eqb-false, ne_eqb, both_ways, and_parts}
+use Rattle.std.proofs.lemmas.Bool.{cases_Bool, cases_lt, ne_eqb, both_ways}
 use Rattle.std.proofs.ByRecursion.{All-weaker}
 use Rattle.std.specs.List.{AllByRecursion as All}
 use Rattle.basis.specs.declared.action.Kind.{Kind}
@@ -19,15 +19,14 @@ use Rattle.sheet.specs.Content.{Content, action_at, variable_at}
 use Rattle.sheet.specs.Limits.{no_action}
 use Rattle.sheet.specs.Calls.{switched}
 use Rattle.envelope.specs.declared.combination.Combination.{Combination}
-use Rattle.envelope.specs.Entries.{Entry, entries_from, entries, parts_of, acts, has, whole}
+use Rattle.envelope.specs.Entries.{Entry, entries_from, entries, parts_of, acts, has}
 use Rattle.envelope.specs.Combinations.{mask, named, present, set_number, factor, coefficient, weighted, share, effect_of}
-use Rattle.envelope.specs.Admissible.{Admissible, SpreadKept, Led, EventNamed, EventMask, active_parts}
+use Rattle.envelope.specs.Admissible.{Admissible, Led, EventNamed, active_parts}
 use Rattle.envelope.proofs.Growth.{gains, Resumed, Grown, Extends}
 use Rattle.envelope.proofs.Bits.{has_none}
 use Rattle.envelope.proofs.Weights.{weighted_none}
-use Rattle.envelope.proofs.Numbering.{entry_at, Numbered, numbered, each_number, of_number, at_number, at_action, entry_parts}
-use Rattle.envelope.proofs.Totals.{total_none}
-use Rattle.envelope.proofs.Setting.{Setting, Own, owned, share_none}
+use Rattle.envelope.proofs.Numbering.{Numbered, numbered, entry_parts}
+use Rattle.envelope.proofs.Setting.{Setting, Own, owned}
 use Rattle.envelope.proofs.Admitted.{absent_kept}
 use Rattle.envelope.proofs.Dominance.{acts_parts}
 use Rattle.envelope.proofs.Mended.{everywhere}

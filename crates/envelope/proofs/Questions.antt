@@ -9,7 +9,7 @@ use Rattle.effects.specs.Components.{size}
 use Rattle.sheet.specs.declared.action.Action.{Action}
 use Rattle.sheet.specs.Content.{Content}
 use Rattle.sheet.specs.Limits.{no_action}
-use Rattle.envelope.specs.Entries.{Entry, entries_from, acts}
+use Rattle.envelope.specs.Entries.{entries_from, acts}
 use Rattle.envelope.specs.Reported.{every}
 use Rattle.envelope.specs.Answers.{too_large, event_at_hand}
 

@@ -1,5 +1,5 @@
 -- From the best candidate to the record that is reported.
-use Rattle.std.proofs.Common.{◌≡◌, ℕ, ◌+◌, ◌-◌, ◌<◌, ◌≤◌, Bool, true, false, ◌&&◌, T, ◌⊎◌, List, [], ◌++◌, map, length, get_or, take, drop, ℤ, IfSome, Some, None, Option, sym, refl, ap, ◌∙◌, subst, inl, inr, arith}
+use Rattle.std.proofs.Common.{◌≡◌, ℕ, ◌-◌, ◌<◌, ◌≤◌, Bool, true, false, List, ◌++◌, map, length, take, ℤ, IfSome, Some, None, Option, sym, ap, ◌∙◌, subst, inl, inr, arith}
 use lib.Ieee.Bits.{is_true}
 use Rattle.std.proofs.lemmas.List.{get_or_past}
 use Rattle.std.proofs.lemmas.Bool.{cases_lt, both_ways, and_parts}
@@ -12,9 +12,9 @@ use Rattle.sheet.specs.Content.{Content, action_at}
 use Rattle.sheet.specs.Limits.{no_action, variables}
 use Rattle.envelope.specs.declared.combination.Combination.{Combination}
 use Rattle.envelope.specs.Places.{places}
-use Rattle.envelope.specs.Entries.{Entry, entries, nowhere, acts}
-use Rattle.envelope.specs.Combinations.{present, effect_of}
-use Rattle.envelope.specs.Admissible.{Admissible, Led, EventNamed}
+use Rattle.envelope.specs.Entries.{Entry, entries, nowhere}
+use Rattle.envelope.specs.Combinations.{present}
+use Rattle.envelope.specs.Admissible.{Led, EventNamed}
 use Rattle.envelope.specs.Reported.{with_chosen, chosen_event, Reported}
 use Rattle.envelope.specs.Answers.{strip_after}
 use Rattle.envelope.specs.Layout.{mask_in, both_halves}

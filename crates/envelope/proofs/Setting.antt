@@ -1,7 +1,6 @@
 -- A sheet with effects for its parts, and what each action adds.
-use Rattle.std.proofs.Common.{◌≡◌, ℕ, zero, suc, ◌+◌, ◌*◌, ◌^◌, ◌<◌, ◌≤◌, min, Bool, true, false, cond, not, ◌&&◌, T, ◌⊎◌, List, [], ◌∷◌, map, length, get_or, take, drop, ℤ, sum_by, sym, refl, ap, ◌∙◌, subst, inl, inr, ⊎_elim, mul-le-mul, zero-add, arith, length-drop, length-take}
-use lib.ListN.{length-replicate}
-use Rattle.std.proofs.ByRecursion.{All-take, All-drop, All-weaker, All-get_or}
+use Rattle.std.proofs.Common.{◌≡◌, ℕ, ◌+◌, ◌≤◌, Bool, true, false, cond, List, [], ◌∷◌, map, length, drop, ℤ, sum_by, sym, refl, ap, ◌∙◌, subst, inl, inr, arith, length-drop, length-take}
+use Rattle.std.proofs.ByRecursion.{All-take, All-drop, All-weaker}
 use Rattle.std.proofs.lemmas.List.Sums.{sum_by-cons}
 use Rattle.std.proofs.lemmas.Bool.{cases_Bool}
 use Rattle.std.specs.List.{AllByRecursion as All}
@@ -13,17 +12,16 @@ use Rattle.effects.specs.Laws.{Closed, Laws, IsFactor}
 use Rattle.effects.specs.Lists.{zeros_sum}
 use Rattle.effects.proofs.Totals.{sum_zeros}
 use Rattle.rulebooks.specs.Books.{Form, Book}
-use Rattle.sheet.specs.declared.action.Action.{Action}
-use Rattle.sheet.specs.Content.{Content, action_at}
+use Rattle.sheet.specs.Content.{Content}
 use Rattle.sheet.specs.Limits.{parts_in}
 use Rattle.envelope.specs.declared.combination.Combination.{Combination}
 use Rattle.envelope.specs.Entries.{Entry, entries, parts_of, has}
-use Rattle.envelope.specs.Combinations.{mask, named, weighted, factor, coefficient, share, effect_of}
-use Rattle.envelope.proofs.Values.{Value, Reaches, wider, long, zero_value, level}
+use Rattle.envelope.specs.Combinations.{mask, named, weighted, factor, coefficient, share}
+use Rattle.envelope.proofs.Values.{long, zero_value}
 use Rattle.envelope.proofs.Weights.{Parts, weighted_value, weighted_none, weighted_same}
-use Rattle.envelope.proofs.Numbering.{Numbered, numbered, entry_parts, entries_length}
-use Rattle.envelope.proofs.Totals.{Share, total_split, total_same, total_share, entries_sum, all_both}
-use Rattle.envelope.proofs.ByKind.{FormLaws, factor_fits, acting}
+use Rattle.envelope.proofs.Numbering.{entry_parts}
+use Rattle.envelope.proofs.Totals.{Share, total_split, total_same}
+use Rattle.envelope.proofs.ByKind.{FormLaws, factor_fits}
 
 abbrev pub is_event : Kind → Bool
 is_event Permanent = false

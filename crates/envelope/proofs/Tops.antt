@@ -1,9 +1,9 @@
 -- The first greatest of a list of effects.
-use Rattle.std.proofs.Common.{◌≡◌, ℕ, zero, suc, ◌+◌, ◌<◌, ◌≤◌, Bool, true, false, cond, T, ◌⊎◌, List, [], ◌∷◌, length, get_or, drop, ℤ, Some, None, Option, sym, refl, ap, ◌∙◌, subst, inl, inr, ⊎_elim, arith, length-drop, below_more}
+use Rattle.std.proofs.Common.{◌≡◌, ℕ, zero, suc, ◌+◌, ◌<◌, ◌≤◌, Bool, false, List, [], ◌∷◌, length, get_or, drop, ℤ, refl, ap, subst, inl, inr, ⊎_elim, arith, length-drop, below_more}
 use Rattle.std.proofs.lemmas.List.{drop_more}
 use Rattle.std.proofs.lemmas.Bool.{cases_Bool, cases_lt}
 use Rattle.std.specs.List.{AllByRecursion as All}
-use Rattle.effects.specs.Supplies.{greatest_from, greatest_of}
+use Rattle.effects.specs.Supplies.{greatest_from}
 use Rattle.effects.specs.Laws.{Closed, Laws}
 use Rattle.envelope.specs.Choices.{greatest_part}
 use Rattle.envelope.proofs.Values.{Reaches, Lg, total, level, chain}

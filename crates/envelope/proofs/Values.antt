@@ -1,16 +1,11 @@
 -- Component lists that are effects of a kind, and what the laws say of them.
-use Rattle.std.proofs.Common.{◌≡◌, ℕ, zero, suc, ◌+◌, ◌*◌, ◌<◌, ◌≤◌, Bool, true, false, cond, not, T, ◌⊎◌, List, [], ◌∷◌, map, length, get_or, ℤ, pos, ◌+ℤ◌, ◌*ℤ◌, sym, refl, ap, ◌∙◌, subst, inl, inr, ⊎_elim, suc-mul, mul-le-mul, mul-add, arith, T_not}
+use Rattle.std.proofs.Common.{◌≡◌, ℕ, ◌+◌, ◌*◌, ◌≤◌, Bool, T, ◌⊎◌, List, [], ◌∷◌, length, ℤ, pos, ◌+ℤ◌, ◌*ℤ◌, sym, refl, ap, ◌∙◌, ⊎_elim, mul-le-mul, mul-add, arith}
 use borrow.Author.Differences.{up, down}
-use lib.Dec.{not_T}
-use lib.IntN.{+ℤ_comm, zero-*ℤ}
+use lib.IntN.{+ℤ_comm}
 use Rattle.std.proofs.lemmas.Int.{ints}
-use Rattle.std.proofs.lemmas.Bool.{cases_Bool}
-use Rattle.std.specs.List.{AllByRecursion as All}
 use Rattle.effects.specs.Components.{zeros, sum, multiple, exact_sum, exact_multiple, size}
-use Rattle.effects.specs.Supplies.{exact_total}
-use Rattle.effects.specs.Laws.{Closed, Laws, Large, Small, IsFactor}
-use Rattle.effects.specs.Lists.{sum_exact, exact_sum_size, multiple_exact, exact_multiple_size, zeros_size, zeros_sum, zeros_multiple, small_multiple}
-use Rattle.effects.proofs.Totals.{sum_zeros}
+use Rattle.effects.specs.Laws.{Closed, Laws, IsFactor}
+use Rattle.effects.specs.Lists.{sum_exact, exact_sum_size, multiple_exact, exact_multiple_size, zeros_size, small_multiple}
 use Rattle.effects.specs.Factors.{turned_laws}
 
 pub sum_comm : (xs ys : List ℤ) → exact_sum xs ys ≡ exact_sum ys xs

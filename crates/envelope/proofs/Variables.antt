@@ -1,15 +1,15 @@
 -- The variable actions of a sheet by place.
-use Rattle.std.proofs.Common.{◌≡◌, ℕ, zero, suc, ◌+◌, ◌^◌, ◌<◌, ◌≤◌, Bool, true, false, cond, not, ◌&&◌, ◌⊎◌, List, [], ◌∷◌, map, length, get_or, count_by, filter, sym, refl, ap, ◌∙◌, subst, inl, inr, add-zero, zero-add, arith}
+use Rattle.std.proofs.Common.{◌≡◌, ℕ, zero, suc, ◌+◌, ◌<◌, ◌≤◌, Bool, true, cond, List, [], ◌∷◌, length, get_or, count_by, filter, sym, refl, ap, ◌∙◌, inl, inr, add-zero, zero-add, arith}
 use Rattle.std.proofs.lemmas.List.Sums.{length-filter, sum_by-cons}
 use Rattle.std.proofs.ByRecursion.{All-get_or, All-weaker, all_kept_by, kept_by_passes}
-use Rattle.std.proofs.lemmas.Bool.{cases_Bool, cases_lt}
+use Rattle.std.proofs.lemmas.Bool.{cases_Bool}
 use Rattle.std.specs.List.{AllByRecursion as All}
 use Rattle.basis.specs.Vocabulary.{is_variable}
 use Rattle.sheet.specs.declared.action.Action.{Action}
 use Rattle.sheet.specs.Content.{Content}
 use Rattle.sheet.specs.Limits.{variables}
 use Rattle.envelope.specs.Entries.{Entry, entries_from, entries, nowhere}
-use Rattle.envelope.proofs.Numbering.{entry_at, entries_length, Numbered, numbered, each_number}
+use Rattle.envelope.proofs.Numbering.{entry_at, entries_length, each_number}
 use Rattle.envelope.proofs.Totals.{numbers_from}
 use Rattle.envelope.proofs.Events.{kept_place}
 

@@ -1,5 +1,5 @@
 -- Sums of parts, each times its factor.
-use Rattle.std.proofs.Common.{◌≡◌, ℕ, zero, suc, ◌+◌, ◌*◌, ◌<◌, ◌≤◌, Bool, true, false, cond, not, T, ◌⊎◌, List, [], ◌∷◌, map, length, get_or, ℤ, sym, refl, ap, ◌∙◌, subst, inl, inr, ⊎_elim, suc-mul, arith}
+use Rattle.std.proofs.Common.{◌≡◌, ℕ, zero, suc, ◌*◌, ◌<◌, ◌≤◌, Bool, true, false, cond, not, List, [], ◌∷◌, map, length, get_or, ℤ, sym, refl, ap, ◌∙◌, inl, inr, ⊎_elim, suc-mul, arith}
 use lib.IntN.{zero-*ℤ}
 use Rattle.std.proofs.lemmas.Bool.{cases_Bool}
 use Rattle.std.specs.List.{AllByRecursion as All}
@@ -10,7 +10,7 @@ use Rattle.effects.specs.Lists.{zeros_sum, zeros_multiple}
 use Rattle.effects.proofs.Totals.{sum_zeros}
 use Rattle.envelope.specs.Combinations.{weighted}
 use Rattle.envelope.specs.Choices.{above_zero}
-use Rattle.envelope.proofs.Values.{Value, Reaches, Lg, Sm, of_value, wider, long, zero_value, sum_value, multiple_value, total, level, chain, sums, multiples, raised, lowered, multiple_sum}
+use Rattle.envelope.proofs.Values.{Value, Reaches, Lg, Sm, of_value, wider, long, zero_value, sum_value, multiple_value, total, level, sums, raised, lowered, multiple_sum}
 
 none_of : (xs : List ℤ) → exact_multiple 0 xs ≡ zeros (length xs)
 none_of [] = refl

@@ -1,7 +1,7 @@
 -- The effect of a combination with chosen parts, by the places of its variable actions.
-use Rattle.std.proofs.Common.{◌≡◌, ℕ, zero, suc, ◌+◌, ◌-◌, ◌*◌, ◌^◌, ◌<◌, ◌≤◌, Bool, true, false, cond, not, ◌&&◌, ◌||◌, T, eqb, ◌⊎◌, List, [], ◌∷◌, map, length, get_or, take, drop, ℤ, ◌+ℤ◌, Some, None, Option, sym, refl, ap, ◌∙◌, subst, inl, inr, ⊎_elim, zero-add, add-one, arith, length-drop, length-take}
+use Rattle.std.proofs.Common.{◌≡◌, ℕ, zero, suc, ◌+◌, ◌*◌, ◌^◌, ◌<◌, ◌≤◌, Bool, true, false, cond, ◌||◌, eqb, List, [], ◌∷◌, map, length, get_or, drop, ℤ, Some, None, Option, sym, refl, ap, ◌∙◌, subst, inl, inr, zero-add, add-one, arith, length-drop, length-take}
 use Rattle.std.proofs.lemmas.List.Sums.{sum_by-cons}
-use Rattle.std.proofs.lemmas.Bool.{cases_Bool, cases_lt, cases_order, both_ways, eq-eqb, ne_eqb, eqb-true}
+use Rattle.std.proofs.lemmas.Bool.{cases_Bool, cases_order, both_ways, eq-eqb, ne_eqb, eqb-true}
 use Rattle.std.proofs.ByRecursion.{All-weaker, All-take, All-drop}
 use Rattle.std.specs.List.{AllByRecursion as All}
 use Rattle.basis.specs.Vocabulary.{is_variable}
@@ -19,11 +19,11 @@ use Rattle.envelope.specs.Choices.{choice}
 use Rattle.envelope.specs.Reported.{with_chosen, base_share}
 use Rattle.envelope.specs.Answers.{contribution}
 use Rattle.envelope.specs.Search.{summed, reached}
-use Rattle.envelope.proofs.Values.{Value, sum_comm, long, zero_value, wider}
+use Rattle.envelope.proofs.Values.{Value, sum_comm, long, zero_value}
 use Rattle.envelope.proofs.Members.{has_with}
 use Rattle.envelope.proofs.ByKind.{role, role_fits}
 use Rattle.envelope.proofs.Weights.{Parts, weighted_value}
-use Rattle.envelope.proofs.Variables.{varies, at_place, place_is, number_ascends, Placed, placed}
+use Rattle.envelope.proofs.Variables.{varies, at_place, number_ascends, Placed, placed}
 use Rattle.envelope.proofs.Setting.{Setting}
 use Rattle.envelope.proofs.Contributions.{added, effect_in_parts, weighted_factor}
 

@@ -1,5 +1,5 @@
 -- The combinations that the rules admit.
-use Rattle.std.specs.Prelude.{◌≡◌, ℕ, ◌^◌, ◌<◌, Bool, true, false, cond, ◌||◌, T, ◌⊎◌, List, length, Some, None, Option}
+use Rattle.std.specs.Prelude.{◌≡◌, ℕ, ◌^◌, ◌<◌, Bool, true, false, cond, ◌||◌, T, ◌⊎◌, length, Some, None, Option}
 use Rattle.std.specs.List.{AllByRecursion as All}
 use Rattle.basis.specs.declared.action.Kind.{Kind}
 use Rattle.basis.specs.declared.action.Kind.TheVariants.{Permanent, Prestress, Variable, Accidental, Seismic}
@@ -10,7 +10,7 @@ use Rattle.rulebooks.specs.Books.{Book}
 use Rattle.sheet.specs.declared.action.Action.{Action}
 use Rattle.sheet.specs.Content.{Content, action_at}
 use Rattle.envelope.specs.declared.combination.Combination.{Combination}
-use Rattle.envelope.specs.Entries.{Entry, entries, acts, whole}
+use Rattle.envelope.specs.Entries.{entries, acts, whole}
 use Rattle.envelope.specs.Combinations.{mask, named, present, set_number}
 
 -- of each active action of the kind, with its mask

@@ -1,5 +1,5 @@
 -- What an envelope answers, and what it leaves in the strip.
-use Rattle.std.specs.Prelude.{ℕ, ◌+◌, ◌-◌, Bool, true, false, cond, ◌&&◌, ◌||◌, List, [], ◌∷◌, ◌++◌, map, length, ℤ, Some, None, Ok, Err, filter, Option, Result, ◌==◌, nat_le}
+use Rattle.std.specs.Prelude.{ℕ, ◌+◌, ◌-◌, Bool, true, false, cond, List, [], ◌∷◌, ◌++◌, map, length, ℤ, Some, None, Ok, Err, filter, Option, Result, ◌==◌, nat_le}
 use Rattle.basis.specs.declared.action.Kind.{Kind}
 use Rattle.basis.specs.Vocabulary.{is_variable, event_kind}
 use Rattle.effects.specs.Components.{zeros, size, exact_multiple}

@@ -1,5 +1,5 @@
 -- The parts that the reported combination takes, by the ranking.
-use Rattle.std.specs.Prelude.{ℕ, ◌^◌, Bool, true, false, cond, not, List, [], ◌∷◌, map, length, ℤ, Some, None, filter, Option, slice_index_or}
+use Rattle.std.specs.Prelude.{ℕ, ◌^◌, Bool, true, false, cond, not, List, [], map, length, ℤ, Some, None, filter, Option, slice_index_or}
 use Rattle.std.specs.List.{slice_get}
 use Rattle.basis.specs.declared.action.Kind.{Kind}
 use Rattle.basis.specs.declared.action.Spread.{Spread}
@@ -7,7 +7,7 @@ use Rattle.basis.specs.declared.action.Spread.TheVariants.{Fixed, Free, Alternat
 use Rattle.effects.specs.Components.{zeros}
 use Rattle.effects.specs.Supplies.{exact_total, greatest_of}
 use Rattle.sheet.specs.Content.{Content}
-use Rattle.envelope.specs.Entries.{Entry, entries, parts_of, acts, mask_of, whole}
+use Rattle.envelope.specs.Entries.{entries, parts_of, acts, mask_of, whole}
 
 module _ (n : ℕ) (reaches : List ℤ → List ℤ → Bool) where
   -- zero does not rank at or above it

@@ -1,9 +1,8 @@
 -- The factor at which each part acts in a combination, and the effect of the combination.
-use Rattle.std.specs.Prelude.{ℕ, suc, ◌+◌, ◌^◌, Bool, true, false, cond, not, ◌&&◌, List, [], ◌∷◌, map, ℤ, Some, None, sum_by, Option, ◌==◌, slice_index}
+use Rattle.std.specs.Prelude.{ℕ, suc, ◌^◌, Bool, false, cond, not, ◌&&◌, List, [], ◌∷◌, map, ℤ, Some, None, sum_by, Option, ◌==◌, slice_index}
 use Rattle.basis.specs.declared.category.Category.{Category}
 use Rattle.basis.specs.declared.action.Kind.{Kind}
 use Rattle.basis.specs.declared.action.Kind.TheVariants.{Permanent, Prestress, Variable, Accidental, Seismic}
-use Rattle.basis.specs.Vocabulary.{is_variable}
 use Rattle.effects.specs.Components.{zeros, exact_sum, exact_multiple}
 use Rattle.effects.specs.Supplies.{exact_total}
 use Rattle.rulebooks.specs.Books.{Form, Book}

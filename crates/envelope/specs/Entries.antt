@@ -1,5 +1,5 @@
 -- The actions of a sheet with their numbers, and masks of parts.
-use Rattle.std.specs.Prelude.{ℕ, zero, suc, ◌+◌, ◌/◌, ◌%◌, ◌^◌, Bool, true, false, cond, ◌&&◌, List, [], ◌∷◌, take, drop, ◌==◌}
+use Rattle.std.specs.Prelude.{ℕ, zero, suc, ◌+◌, ◌/◌, ◌%◌, ◌^◌, Bool, true, cond, ◌&&◌, List, [], ◌∷◌, take, drop, ◌==◌}
 use Rattle.basis.specs.declared.action.Kind.{Kind}
 use Rattle.basis.specs.Vocabulary.{is_variable, same_kind}
 use Rattle.sheet.specs.declared.action.Action.{Action}

@@ -1,5 +1,5 @@
 -- Worked figures, with single effects.
-use Rattle.std.specs.Prelude.{◌≡◌, ℕ, Bool, true, false, List, [], ◌∷◌, map, replicate, ℤ, pos, negsuc, Some, None, Option, refl}
+use Rattle.std.specs.Prelude.{◌≡◌, ℕ, true, false, List, [], ◌∷◌, map, replicate, ℤ, pos, negsuc, Some, None, Option}
 use Rattle.basis.specs.declared.category.Category.{Category}
 use Rattle.basis.specs.declared.category.Category.TheVariants.{A, Wind}
 use Rattle.basis.specs.declared.action.Kind.{Kind}

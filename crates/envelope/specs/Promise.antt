@@ -7,7 +7,7 @@ use Rattle.envelope.specs.Combinations.{effect_of}
 use Rattle.envelope.specs.Admissible.{Admissible}
 use Rattle.envelope.specs.Reported.{Reported}
 use Rattle.envelope.specs.Answers.{Reply, found, refused, refused_at, answer, strip_after}
-use Rattle.sheet.specs.Histories.{Call, draft, issued, Leaves}
+use Rattle.sheet.specs.Histories.{Call, issued, Leaves}
 use Rattle.envelope.specs.Histories.{Grows}
 
 -- of an effect that was found, and of nothing else

@@ -9,7 +9,7 @@ use Rattle.sheet.specs.Limits.{variables}
 use Rattle.envelope.specs.Places.{places}
 use Rattle.envelope.specs.declared.combination.Combination.{Combination}
 use Rattle.envelope.specs.Entries.{Entry, entries, parts_of, has, whole}
-use Rattle.envelope.specs.Combinations.{mask, named, present, set_number, share, effect_of}
+use Rattle.envelope.specs.Combinations.{named, present, set_number, share, effect_of}
 use Rattle.envelope.specs.Admissible.{Admissible}
 use Rattle.basis.specs.Vocabulary.{is_variable, event_kind}
 use Rattle.effects.specs.Components.{zeros}

@@ -1,12 +1,12 @@
 -- A reading's whole number is the nearest to the float's exact value.
-use Rattle.std.proofs.Common.{◌≡◌, ℕ, zero, suc, ◌+◌, ◌-◌, ◌*◌, ◌/◌, ◌%◌, ◌<◌, ◌≤◌, Bool, true, false, cond, T, ◌⊎◌, List, [], ◌∷◌, map, ℤ, pos, negsuc, ◌-ℤ◌, ◌*ℤ◌, neg_ℤ, nat_abs, Some, None, sym, refl, ap, ◌∙◌, subst, inl, inr, mul-le-mul_right, mod-lt, suc-mul, div-add-mod', arith}
+use Rattle.std.proofs.Common.{◌≡◌, ℕ, zero, suc, ◌+◌, ◌-◌, ◌*◌, ◌/◌, ◌%◌, ◌<◌, ◌≤◌, Bool, true, false, cond, ◌⊎◌, List, [], ◌∷◌, map, ℤ, pos, negsuc, ◌-ℤ◌, ◌*ℤ◌, neg_ℤ, nat_abs, Some, None, sym, refl, ap, ◌∙◌, subst, inl, inr, mul-le-mul_right, mod-lt, suc-mul, div-add-mod', arith}
 use native.Mathlib.Nat.{eq_of_mul-eq-mul_right}
 use lib.Arith.{digits_div, digits_mod}
 use lib.IntN.{neg_ℤ-neg_ℤ}
-use lib.Ieee.{Float, fin}
+use lib.Ieee.{Float}
 use Rattle.std.proofs.lemmas.Int.{ints}
-use Rattle.readings.specs.Nearest.{negative, size, unit, signed, readable, whole_of, read_of, nearest, closer, tie, Preferred}
-use Rattle.readings.specs.Rounded.{numerator, off, Rounded, SectionRounded, EachRounded}
+use Rattle.readings.specs.Nearest.{negative, size, unit, signed, readable, whole_of, read_of, nearest, tie, Preferred}
+use Rattle.readings.specs.Rounded.{off, Rounded, SectionRounded, EachRounded}
 use Rattle.readings.specs.Readings.{section_of}
 use Rattle.readings.specs.declared.list.Reading.{Reading}
 use Rattle.readings.proofs.Rounding.{order, closer_below, closer_half, closer_above}

@@ -1,5 +1,5 @@
 -- The steps of the loops over readings.
-use Rattle.std.proofs.Common.{◌≡◌, ℕ, suc, ◌+◌, ◌<◌, ◌≤◌, Bool, true, false, cond, T, List, [], ◌∷◌, ◌++◌, map, length, get_or, take, drop, set, Some, None, Option, sym, refl, ap, ◌∙◌, subst, true≢false, add-one}
+use Rattle.std.proofs.Common.{◌≡◌, ℕ, ◌+◌, ◌<◌, ◌≤◌, Bool, true, false, cond, List, [], ◌∷◌, ◌++◌, map, length, get_or, take, drop, set, Some, None, sym, refl, ap, ◌∙◌, add-one}
 use lib.Ieee.{nan}
 use Rattle.std.proofs.lemmas.List.{drop_more, at_drop_all, take_more_set, map_more, take_all}
 use Rattle.readings.specs.declared.list.Reading.{Reading}

@@ -1,5 +1,5 @@
 -- The layers over a rulebook.
-use Rattle.std.specs.Prelude.{◌≡◌, ℕ, ◌≤◌, max, Bool, cond, ◌==◌, ◌≢◌}
+use Rattle.std.specs.Prelude.{◌≡◌, ℕ, ◌≤◌, max, cond, ◌==◌, ◌≢◌}
 use Rattle.basis.specs.Factors.{scaled_by}
 use Rattle.basis.specs.Vocabulary.{category_place}
 use Rattle.basis.specs.declared.category.Category.{Category}

@@ -1,20 +1,19 @@
 -- The laws of the calls, from their definitions.
-use Rattle.std.proofs.Common.{◌≡◌, ℕ, ◌<◌, ◌≤◌, Bool, true, false, cond, not, ◌&&◌, eqb, ◌≢◌, ◌⊎◌, List, [], ◌∷◌, ◌++◌, length, get_or, set, sym, refl, ap, ◌∙◌, subst, ⊎_elim, arith, lit≤, length-set}
+use Rattle.std.proofs.Common.{◌≡◌, ℕ, ◌<◌, Bool, true, false, cond, not, ◌&&◌, eqb, ◌≢◌, List, [], ◌∷◌, ◌++◌, length, sym, refl, ap, ◌∙◌, subst, ⊎_elim, arith, lit≤, length-set}
 use Rattle.std.proofs.lemmas.List.{get_or-set_same, get_or-set_other, get_or_append_left, set-set, set-get_or}
 use Rattle.std.proofs.lemmas.Bool.{and_parts, and_from, not-true, cases_Bool, cases_eq, true≢false, or_cases, eqb-true, eq-eqb, or_left, ltb-true, lt-ltb}
 use Rattle.std.proofs.lemmas.Bool.Decides.{nat_tests}
 use Rattle.basis.specs.declared.category.Category.{Category}
-use Rattle.basis.specs.Vocabulary.{is_variable}
 use Rattle.sheet.specs.declared.action.Action.{Action}
 use Rattle.sheet.specs.Limits.{in_limits, well_formed, no_action, can_pair, Limited, Formed, Paired}
 use Rattle.sheet.specs.Content.{Content, blank, action_at, entered, variable_at, with_entry, with_action, with_mark, same_pair}
 use Rattle.sheet.specs.Answers.{Answer, granted, denied}
 use Rattle.sheet.specs.Calls.{Outcome, ask, settled, described, admitted, entering, pair_to_mark, excluding, lifting, new_category, with_category, recasting, to_switch, switched, suspending, resuming}
-use Rattle.sheet.specs.Histories.{Edit, enter, exclude, lift, recast, suspend, resume, Call, State, draft, issued, held, is_granted, accepted, edited, Runs, ends, edits, issues, reopens, asks, Leaves}
+use Rattle.sheet.specs.Histories.{Edit, enter, exclude, lift, recast, suspend, resume, Call, State, draft, held, is_granted, accepted, edited, Runs, ends, edits, issues, reopens, asks, Leaves}
 use Rattle.sheet.specs.Laws.{Sound, UndoneBy, Laws, OnlyAction, SameButCategory, SameButActive, OnlyPair}
 use Rattle.sheet.proofs.Marks.{same_content}
-use Rattle.sheet.proofs.Keeping.{limited, formed_push, paired_push, limited_set, formed_set, paired_set, paired_mark, pair_parts, variable_entered, well_formed_recast}
-use Rattle.sheet.proofs.Questions.{ask_yes, ask_for_yes, described_yes}
+use Rattle.sheet.proofs.Keeping.{limited, formed_push, paired_push, limited_set, formed_set, paired_set, paired_mark, pair_parts, well_formed_recast}
+use Rattle.sheet.proofs.Questions.{ask_yes, described_yes}
 
 -- a refused call leaves the sheet, and an accepted one leaves what its answer says
 settled_keeps : {X Y : Type 0} (P : Content → Type 0) (s : Content) (x : Answer X) (answer : X → Y) (after : X → Content) → P s → ((y : X) → granted y ≡ x → P (after y)) → P (settled s x answer after).1

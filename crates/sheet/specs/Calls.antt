@@ -1,5 +1,5 @@
 -- What each call answers and what it leaves on the sheet: its questions are put in order, and the first no refuses it.
-use Rattle.std.specs.Prelude.{ℕ, Bool, true, false, cond, not, ◌&&◌, List, [], ◌∷◌, ◌++◌, length, Some, None, codes, Option, ◌==◌}
+use Rattle.std.specs.Prelude.{ℕ, Bool, true, false, cond, not, ◌&&◌, [], ◌∷◌, ◌++◌, length, Some, None, Option, ◌==◌}
 use Rattle.basis.specs.declared.action.Kind.{Kind}
 use Rattle.basis.specs.declared.action.Spread.{Spread}
 use Rattle.basis.specs.declared.category.Category.{Category}

@@ -1,5 +1,5 @@
 -- What is on a sheet.
-use Rattle.std.specs.Prelude.{ℕ, Bool, true, false, cond, ◌&&◌, ◌||◌, List, [], ◌∷◌, ◌++◌, length, vec_items, ◌==◌, nat_lt, slice_index_or, slice_set}
+use Rattle.std.specs.Prelude.{ℕ, Bool, false, cond, ◌&&◌, ◌||◌, List, [], ◌∷◌, ◌++◌, length, vec_items, ◌==◌, nat_lt, slice_index_or, slice_set}
 use Rattle.basis.specs.Vocabulary.{is_variable}
 use Rattle.sheet.specs.declared.action.Action.{Action}
 use Rattle.sheet.specs.declared.plain.Sheet.{Sheet}

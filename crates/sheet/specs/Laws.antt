@@ -1,5 +1,5 @@
 -- What holds of every sheet and of every call, in the words of the load sheet.
-use Rattle.std.specs.Prelude.{◌≡◌, ℕ, ◌<◌, ◌≤◌, Bool, true, false, List, length, ◌≢◌}
+use Rattle.std.specs.Prelude.{◌≡◌, ℕ, ◌<◌, ◌≤◌, true, false, List, length, ◌≢◌}
 use Rattle.sheet.specs.declared.action.Action.{Action}
 use Rattle.sheet.specs.Limits.{variables, parts_in, well_formed}
 use Rattle.sheet.specs.Content.{Content, action_at, variable_at, same_pair}

@@ -1,5 +1,5 @@
 -- What a list of actions and a table of marks must keep to be a sheet.
-use Rattle.std.specs.Prelude.{◌≡◌, ℕ, ◌<◌, ◌≤◌, min, max, Bool, true, false, not, ◌&&◌, List, [], ◌∷◌, length, get_or, is_some, None, sum_by, count_by, ◌==◌, nat_le, slice_index_or}
+use Rattle.std.specs.Prelude.{◌≡◌, ℕ, ◌<◌, ◌≤◌, min, max, Bool, true, false, not, ◌&&◌, List, [], length, get_or, is_some, None, sum_by, count_by, ◌==◌, nat_le, slice_index_or}
 use Rattle.basis.specs.declared.action.Kind.TheVariants.{Permanent}
 use Rattle.basis.specs.declared.action.Spread.TheVariants.{Fixed}
 use Rattle.basis.specs.Vocabulary.{is_variable, allows}

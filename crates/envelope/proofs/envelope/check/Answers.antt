@@ -1,4 +1,4 @@
-use Rattle.std.proofs.Common.{◌≡◌, map, length, sym, ap, ◌∙◌, arith}
+use Rattle.std.proofs.Common.{sym, ap, ◌∙◌}
 use lib.ListN.{length-map}
 use Rattle.basis.specs.Vocabulary.{event_kind}
 use Rattle.rulebooks.specs.Books.{Book}

@@ -1,4 +1,4 @@
-use Rattle.std.proofs.Common.{◌≡◌, T, map, sym, ap, subst}
+use Rattle.std.proofs.Common.{T, map, sym, subst}
 use Rattle.rulebooks.specs.Books.{Book}
 use Rattle.sheet.specs.Content.{Content, content}
 use Rattle.sheet.specs.Histories.{issued}

@@ -1,4 +1,4 @@
-use Rattle.std.proofs.Common.{◌≡◌, ◌-◌, ◌<◌, ◌≤◌, ◌++◌, map, length, drop}
+use Rattle.std.proofs.Common.{◌≡◌, ◌-◌, ◌<◌, ◌++◌, map, drop}
 use Rattle.sheet.specs.Content.{content}
 use Rattle.envelope.specs.Combinations.{effect_of}
 use Rattle.envelope.specs.Reported.{with_chosen}

@@ -1,4 +1,4 @@
-use Rattle.std.proofs.Common.{◌≡◌, T, sym, ◌∙◌, subst, arith}
+use Rattle.std.proofs.Common.{T, subst, arith}
 use Rattle.readings.proofs.Places.{none_next, readable_at, filled_more, filled_all}
 use Rattle.readings.proofs.list.fill.Goals as goal
 

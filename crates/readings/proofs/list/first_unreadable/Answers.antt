@@ -1,4 +1,4 @@
-use Rattle.std.proofs.Common.{◌≡◌, sym, ◌∙◌}
+use Rattle.std.proofs.Common.{sym, ◌∙◌}
 use Rattle.readings.proofs.Places.{first_next, first_here, first-none}
 use Rattle.readings.proofs.list.first_unreadable.Goals as goal
 

@@ -1,4 +1,4 @@
-use Rattle.std.proofs.Common.{◌≡◌, ℕ, List, sym, ◌∙◌, subst, arith, rules}
+use Rattle.std.proofs.Common.{◌≡◌, ℕ, List, sym, subst, arith, rules}
 use Rattle.effects.specs.declared.section.Section.{Section}
 use Rattle.readings.specs.Rounded.{EachRounded}
 use Rattle.readings.proofs.Nearness.{each_rounded}

@@ -1,4 +1,4 @@
-use Rattle.std.proofs.Common.{◌≡◌, ℕ, ◌/◌, ◌%◌, ◌^◌, sym, ◌∙◌, add-one, arith}
+use Rattle.std.proofs.Common.{◌/◌, ◌%◌, ◌^◌, sym, ◌∙◌, add-one, arith}
 use Rattle.readings.proofs.Rounding.{closer_below, closer_half, closer_above, rest-is, half_is}
 use Rattle.readings.proofs.number.nearest_quotient.Goals as goal
 

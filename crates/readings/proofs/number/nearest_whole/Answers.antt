@@ -1,4 +1,4 @@
-use Rattle.std.proofs.Common.{◌≡◌, ℕ, ◌^◌, ◌<◌, T, ℤ, pos, ◌-ℤ◌, neg_ℤ, sym, ap, ◌∙◌, arith, w64, to_z, of_z, rules}
+use Rattle.std.proofs.Common.{◌≡◌, ℕ, ◌^◌, ◌<◌, T, pos, ◌-ℤ◌, neg_ℤ, sym, ap, ◌∙◌, arith, w64, to_z, of_z, rules}
 use lib.Ieee.{binary64, fits}
 use Rattle.std.proofs.lemmas.Int.{ints}
 use Rattle.readings.proofs.Rounding.{shifted_lt}

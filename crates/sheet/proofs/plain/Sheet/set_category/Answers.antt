@@ -1,4 +1,4 @@
-use Rattle.std.proofs.Common.{◌≡◌, ◌<◌, true, ◌&&◌, length, get_or, vec_items, vec_capacity, ap, ◌∙◌, rules}
+use Rattle.std.proofs.Common.{◌≡◌, ◌<◌, true, length, get_or, vec_items, vec_capacity, ap, ◌∙◌, rules}
 use Rattle.std.proofs.lemmas.List.{get_or_read}
 use Rattle.sheet.specs.declared.action.Action.{Action}
 use Rattle.sheet.specs.Limits.{no_action, well_formed, marked_in}

@@ -1,5 +1,5 @@
-use Rattle.std.proofs.Common.{◌≡◌, ℕ, ◌<◌, min, max, Bool, cond, List, [], length, get_or, set, vec_items, sym, refl, ap, ◌∙◌, subst, arith, rules}
-use Rattle.sheet.specs.Limits.{Paired, marked_in}
+use Rattle.std.proofs.Common.{◌≡◌, ℕ, ◌<◌, min, max, Bool, cond, List, [], length, get_or, set, vec_items, sym, refl, ap, ◌∙◌, arith, rules}
+use Rattle.sheet.specs.Limits.{marked_in}
 use Rattle.sheet.specs.Content.{same_pair}
 use Rattle.sheet.proofs.Marks.{same_content, mark_set}
 use Rattle.sheet.proofs.Keeping.{paired_mark}

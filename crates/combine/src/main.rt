@@ -13,6 +13,7 @@ use command::{parse, tidy};
 use print::{print_call, print_sheet};
 use session::Session;
 use std::alloc::Global;
+use std::process::ExitCode;
 use std::{env, fs, io};
 
 // The text of the file that the first argument names, or of standard input.
@@ -61,12 +62,11 @@ fn run(rt: &HostRuntime) -> io::Result<()> {
     play_text(rt, rt.alloc(), text.as_str())
 }
 
-fn main(rt: HostRuntime) -> io::Result<()> {
+fn main(rt: HostRuntime) -> ExitCode {
     match run(&rt) {
-        Ok(()) => Ok(()),
-        Err(error) => {
-            eprintln!(rt; "combine: {error}")?;
-            Err(error)
-        }
+        Ok(()) => ExitCode::SUCCESS,
+        Err(error) => match eprintln!(rt; "combine: {error}") {
+            Ok(()) | Err(_) => ExitCode::FAILURE,
+        },
     }
 }

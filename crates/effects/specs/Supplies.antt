@@ -1,6 +1,6 @@
 -- Lists of effects: their sum, and the greatest of them.
 use Rattle.std.specs.Prelude.{ℕ, ◌+◌, ◌<◌, ◌≤◌, Bool, cond, not, T, List, [], ◌∷◌, length, ℤ, Some, None, fold, Option, slice_index_or}
-use Rattle.std.specs.List.{AllByRecursion as All}
+use Rattle.std.specs.List.{AllByRecursion}
 use Rattle.effects.specs.Components.{zeros, sum, exact_sum, size}
 
 -- the sum of a list of effects with n components each, one after the other
@@ -15,7 +15,7 @@ exact_total n (xs ∷ xss) = exact_sum xs (exact_total n xss)
 -- what may be supplied for the parts of a sheet: at most 192 effects, each of size at most 10^9
 pub record Supply (xss : List (List ℤ)) : Type 0 where
   pub few : length xss ≤ 192
-  pub small : All (λ xs. size xs ≤ 1_000_000_000) xss
+  pub small : AllByRecursion (λ xs. size xs ≤ 1_000_000_000) xss
 
 -- among the first n effects none ranks above the one at place b, and none before it is level with it
 pub record Greatest (reaches : List ℤ → List ℤ → Bool) (xss : List (List ℤ)) (n b : ℕ) : Type 0 where

@@ -1,6 +1,6 @@
 // Lists of effects: their sum, and the greatest of them.
 ghost use Rattle.std.specs.Prelude.{◌≡◌, map, length, MatchOption};
-ghost use Rattle.std.specs.List.{AllByRecursion as All};
+ghost use Rattle.std.specs.List.{AllByRecursion};
 ghost use Rattle.effects.specs.Laws.{Large};
 ghost use Rattle.effects.specs.Supplies.{total, exact_total, Supply, Greatest, greatest_of};
 
@@ -21,7 +21,7 @@ pub fn total_of<E: Effect>(effects: &[E]) -> E
 // The place of the greatest of a list of effects, the lowest where there are several.
 pub fn greatest<E: Effect>(effects: &[E]) -> Option<usize>
     ensures value { result ≡ greatest_of E.reaches (map E.components effects.now) }
-    ensures first { All Large (map E.components effects.now) → MatchOption result (length effects.now ≡ 0) (λ b. Greatest E.reaches (map E.components effects.now) (length effects.now) b) }
+    ensures first { AllByRecursion Large (map E.components effects.now) → MatchOption result (length effects.now ≡ 0) (λ b. Greatest E.reaches (map E.components effects.now) (length effects.now) b) }
 {
     if effects.is_empty() {
         return None;

@@ -1,6 +1,6 @@
 -- The combinations that the rules admit.
 use Rattle.std.specs.Prelude.{◌≡◌, ℕ, ◌^◌, ◌<◌, Bool, true, false, cond, ◌||◌, T, ◌⊎◌, length, Some, None, Option}
-use Rattle.std.specs.List.{AllByRecursion as All}
+use Rattle.std.specs.List.{AllByRecursion}
 use Rattle.basis.specs.declared.action.Kind.{Kind}
 use Rattle.basis.specs.declared.action.Kind.TheVariants.{Permanent, Prestress, Variable, Accidental, Seismic}
 use Rattle.basis.specs.declared.action.Spread.{Spread}
@@ -15,7 +15,7 @@ use Rattle.envelope.specs.Combinations.{mask, named, present, set_number}
 
 -- of each active action of the kind, with its mask
 abbrev pub OfEach : Kind → Content → Combination → (Action → ℕ → Type 0) → Type 0
-OfEach k s c P = All (λ e. T (acts k e.action) → P e.action (mask c e.number)) (entries s)
+OfEach k s c P = AllByRecursion (λ e. T (acts k e.action) → P e.action (mask c e.number)) (entries s)
 
 -- the parts of an active action, none of a suspended one or past the last
 abbrev pub active_parts : Action → ℕ
@@ -67,7 +67,7 @@ pub record Admissible (s : Content) (b : Book) (c : Combination) : Type 0 where
   -- one active action of the kind of event that the situation has, none where it has none
   pub event : EventNamed (event_kind b.situation) s c.event
   -- the event acts with all parts or, alternative, with one; no other event acts
-  pub event_parts : All (λ e. T (acts Accidental e.action || acts Seismic e.action) → EventMask (named c.event e.number) e.action.spread e.action.parts (mask c e.number)) (entries s)
+  pub event_parts : AllByRecursion (λ e. T (acts Accidental e.action || acts Seismic e.action) → EventMask (named c.event e.number) e.action.spread e.action.parts (mask c e.number)) (entries s)
   -- the set number fits, and the 32 masks hold parts of active actions only
   pub number : c.set ≡ set_number s c
   pub masks : length c.masks ≡ 32

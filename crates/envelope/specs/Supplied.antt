@@ -1,6 +1,6 @@
 -- What is supplied for the parts of a sheet; only private functions rest on it.
 use Rattle.std.specs.Prelude.{◌≡◌, ℕ, ◌≤◌, true, List, length, ℤ, None}
-use Rattle.std.specs.List.{AllByRecursion as All}
+use Rattle.std.specs.List.{AllByRecursion}
 use Rattle.basis.specs.Vocabulary.{event_kind}
 use Rattle.effects.specs.Components.{size}
 use Rattle.rulebooks.specs.Books.{Book}
@@ -11,7 +11,7 @@ use Rattle.envelope.specs.Answers.{too_large, event_at_hand}
 -- an effect for each part of the sheet, none of size past 10^9
 pub record Supplied (s : Content) (xss : List (List ℤ)) : Type 0 where
   pub complete : length xss ≡ parts_in s.actions
-  pub small : All (λ xs. size xs ≤ 1_000_000_000) xss
+  pub small : AllByRecursion (λ xs. size xs ≤ 1_000_000_000) xss
 
 -- every question of an envelope is answered yes, `room` being the length of the strip
 pub record Accepted (s : Content) (b : Book) (xss : List (List ℤ)) (room : ℕ) : Type 0 where

@@ -1,6 +1,6 @@
 // The strip: what each variable action gives as the leader, and then what it gives beside one.
 ghost use Rattle.std.specs.Prelude.{◌≡◌, ◌≤◌, ◌++◌, map, length, drop, replicate};
-ghost use Rattle.std.specs.List.{AllByRecursion as All};
+ghost use Rattle.std.specs.List.{AllByRecursion};
 ghost use Rattle.effects.specs.Components.{zeros, size};
 ghost use Rattle.sheet.specs.Content.{content};
 ghost use Rattle.sheet.specs.Limits.{parts_in};
@@ -62,7 +62,7 @@ pub(crate) fn fill<R: Rulebook, E: Effect>(
     requires listed { map entry_of entries.now ≡ entries_of (content sheet.now) }
     requires masked { length masks.now ≡ 32 }
     requires complete { length effects.now ≡ parts_in (content sheet.now).actions }
-    requires small { All (λ xs. size xs ≤ 1_000_000_000) (map E.components effects.now) }
+    requires small { AllByRecursion (λ xs. size xs ≤ 1_000_000_000) (map E.components effects.now) }
     ensures { map E.components half.new ≡ role_half E.count (map E.components effects.now) masks.now ((R.meaning book.now).form form) role (content sheet.now) }
 {
     let _ = sheet;
@@ -90,7 +90,7 @@ pub(crate) fn fill_strip<R: Rulebook, E: Effect>(
     requires listed { map entry_of entries.now ≡ entries_of (content sheet.now) }
     requires masked { length masks.now ≡ 32 }
     requires complete { length effects.now ≡ parts_in (content sheet.now).actions }
-    requires small { All (λ xs. size xs ≤ 1_000_000_000) (map E.components effects.now) }
+    requires small { AllByRecursion (λ xs. size xs ≤ 1_000_000_000) (map E.components effects.now) }
     ensures halves { map E.components strip.new ≡ both_halves E.count (map E.components effects.now) masks.now ((R.meaning book.now).form form) (content sheet.now) ++ drop 24 (map E.components strip.old) }
     ensures rest { drop 24 strip.new ≡ drop 24 strip.old }
 {

@@ -1,5 +1,5 @@
 -- What a list of actions and a table of marks must keep to be a sheet.
-use Rattle.std.specs.Prelude.{◌≡◌, ℕ, ◌<◌, ◌≤◌, min, max, Bool, true, false, not, ◌&&◌, List, [], length, get_or, is_some, None, sum_by, count_by, ◌==◌, nat_le, slice_index_or}
+use Rattle.std.specs.Prelude.{◌≡◌, ℕ, ◌<◌, ◌≤◌, min, max, Bool, true, false, not, ◌&&◌, List, [], length, is_some, None, sum_by, count_by, ◌==◌, nat_le, slice_index_or}
 use Rattle.basis.specs.declared.action.Kind.TheVariants.{Permanent}
 use Rattle.basis.specs.declared.action.Spread.TheVariants.{Fixed}
 use Rattle.basis.specs.Vocabulary.{is_variable, allows}
@@ -36,7 +36,7 @@ no_action = record { kind = Permanent; category = None; spread = Fixed; parts = 
 
 -- two different variable actions
 abbrev pub can_pair : List Action → ℕ → ℕ → Bool
-can_pair xs a b = not (a == b) && (is_variable (get_or xs a no_action).kind && is_variable (get_or xs b no_action).kind)
+can_pair xs a b = not (a == b) && (is_variable (slice_index_or xs a no_action).kind && is_variable (slice_index_or xs b no_action).kind)
 
 -- A mark stands at the row of the lower number and the column of the higher, so that either order is one pair.
 abbrev pub marked_in : List (List Bool) → ℕ → ℕ → Bool

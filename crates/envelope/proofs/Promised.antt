@@ -61,14 +61,14 @@ module _ (n : ℕ) (reaches : List ℤ → List ℤ → Bool) (s : Content) (b :
   size_question None h = h refl
   size_question (Some p) h = tt
 
-  question : (q : ℕ) (yes : Bool) (r : Reply) → (yes ≡ true → OfFound r P) → OfFound (ask q yes r) P
-  question q true r h = h refl
-  question q false r h = tt
+  asked : (q : ℕ) (yes : Bool) (r : Reply) → (yes ≡ true → OfFound r P) → OfFound (ask q yes r) P
+  asked q true r h = h refl
+  asked q false r h = tt
 
   pub answered_yes : (room : ℕ) → (length xss ≡ parts_in s.actions → too_large 0 xss ≡ None → event_at_hand (event_kind b.situation) s ≡ true → P (effect_of n s b xss (reported n reaches s b xss)) (reported n reaches s b xss)) → OfFound (answer n reaches s b xss room) P
   answered_yes room h =
-      question 10 (eqb (length xss) (parts_in s.actions)) _ (λ e.
-      question 11 (leb 24 room) _ (λ r.
+      asked 10 (eqb (length xss) (parts_in s.actions)) _ (λ e.
+      asked 11 (leb 24 room) _ (λ r.
       size_question (too_large 0 xss) (λ l.
       last_question (event_at_hand (event_kind b.situation) s) (λ a. h (eqb-true (length xss) (parts_in s.actions) e) l a))))
 

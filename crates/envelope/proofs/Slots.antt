@@ -67,9 +67,6 @@ past xs i l = omega (arith, held_long xs)
 in_slot : (P : Entry → Type 0) (xs : List Slot) (i : ℕ) → P (get_or (held xs) i nowhere) → P (at xs i)
 in_slot P xs i = subst P (held_at xs i)
 
-of_slot : (P : Entry → Type 0) (xs : List Slot) (i : ℕ) → P (at xs i) → P (get_or (held xs) i nowhere)
-of_slot P xs i = subst P (sym (held_at xs i))
-
 module _ (s : Content) (xs : List Slot) (is : held xs ≡ entries s) where
   pub as_many : length xs ≡ length s.actions
   as_many = sym (held_long xs) ∙ walk.as_many s (held xs) is

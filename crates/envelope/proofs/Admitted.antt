@@ -19,7 +19,8 @@ use Rattle.sheet.specs.declared.action.Action.{Action}
 use Rattle.sheet.specs.Content.{Content, action_at, variable_at}
 use Rattle.sheet.specs.Limits.{no_action}
 use Rattle.envelope.specs.declared.combination.Combination.{Combination}
-use Rattle.envelope.specs.Entries.{Entry, entries, parts_of, acts, has, whole}
+use Rattle.envelope.specs.declared.entry.Entry.{Entry}
+use Rattle.envelope.specs.Entries.{entries, parts_of, acts, has, whole}
 use Rattle.envelope.specs.Combinations.{mask, named, present}
 use Rattle.envelope.specs.Admissible.{Admissible, SpreadKept, Led, EventNamed, EventMask, active_parts}
 use Rattle.envelope.specs.Choices.{above_zero, greatest_part, choice, at_upper, event_choice, event_of}

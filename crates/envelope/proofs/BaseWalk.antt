@@ -13,7 +13,8 @@ use Rattle.effects.proofs.Totals.{sum_assoc}
 use Rattle.rulebooks.specs.Books.{Book}
 use Rattle.sheet.specs.Content.{Content}
 use Rattle.envelope.specs.declared.combination.Combination.{Combination}
-use Rattle.envelope.specs.Entries.{Entry, entries, parts_of, has, nowhere}
+use Rattle.envelope.specs.declared.entry.Entry.{Entry}
+use Rattle.envelope.specs.Entries.{entries, parts_of, has, nowhere}
 use Rattle.envelope.specs.Combinations.{mask, weighted, factor, share}
 use Rattle.envelope.specs.Reported.{chosen_mask, with_chosen, base_share}
 use Rattle.envelope.specs.Walks.{fixed_share}

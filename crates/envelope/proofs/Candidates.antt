@@ -18,7 +18,8 @@ use Rattle.sheet.specs.declared.action.Action.{Action}
 use Rattle.sheet.specs.Content.{Content, action_at, variable_at}
 use Rattle.sheet.specs.Limits.{no_action, variables}
 use Rattle.envelope.specs.declared.combination.Combination.{Combination}
-use Rattle.envelope.specs.Entries.{Entry, entries_from, entries, nowhere, parts_of, acts, has, whole}
+use Rattle.envelope.specs.declared.entry.Entry.{Entry}
+use Rattle.envelope.specs.Entries.{entries_from, entries, nowhere, parts_of, acts, has, whole}
 use Rattle.envelope.specs.Combinations.{mask, named, present, set_number, share, effect_of}
 use Rattle.envelope.specs.Admissible.{Admissible, SpreadKept, Led, EventNamed, EventMask, active_parts}
 use Rattle.envelope.specs.Choices.{choice, at_upper, event_choice, event_of}

@@ -13,7 +13,8 @@ use Rattle.effects.specs.Lists.{zeros_multiple, zeros_sum}
 use Rattle.effects.proofs.Totals.{sum_zeros}
 use Rattle.rulebooks.specs.Books.{Form, Book}
 use Rattle.sheet.specs.Content.{Content}
-use Rattle.envelope.specs.Entries.{Entry, entries, parts_of, has}
+use Rattle.envelope.specs.declared.entry.Entry.{Entry}
+use Rattle.envelope.specs.Entries.{entries, parts_of, has}
 use Rattle.envelope.specs.Combinations.{mask, named, weighted, share, factor, effect_of, by_mask}
 use Rattle.envelope.specs.Choices.{choice}
 use Rattle.envelope.specs.Reported.{with_chosen, kind_mask, base_share}

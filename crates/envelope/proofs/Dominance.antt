@@ -17,7 +17,8 @@ use Rattle.sheet.specs.declared.action.Action.{Action}
 use Rattle.sheet.specs.Content.{Content, action_at}
 use Rattle.sheet.specs.Limits.{no_action}
 use Rattle.envelope.specs.declared.combination.Combination.{Combination}
-use Rattle.envelope.specs.Entries.{Entry, entries, parts_of, acts, has}
+use Rattle.envelope.specs.declared.entry.Entry.{Entry}
+use Rattle.envelope.specs.Entries.{entries, parts_of, acts, has}
 use Rattle.envelope.specs.Combinations.{mask, named, share, weighted, factor, effect_of, by_mask}
 use Rattle.envelope.specs.Admissible.{Admissible, EventNamed, EventMask}
 use Rattle.envelope.specs.Choices.{event_choice, event_of}

@@ -8,7 +8,8 @@ use Rattle.basis.specs.declared.action.Kind.{Kind}
 use Rattle.effects.specs.Supplies.{greatest_from}
 use Rattle.sheet.specs.Content.{Content}
 use Rattle.envelope.specs.declared.masks.Ranked.{Ranked}
-use Rattle.envelope.specs.Entries.{Entry, entries, parts_of, acts, nowhere}
+use Rattle.envelope.specs.declared.entry.Entry.{Entry}
+use Rattle.envelope.specs.Entries.{entries, parts_of, acts, nowhere}
 use Rattle.envelope.specs.Choices.{first_greatest, event_effect, event_of}
 
 nth_here : {A : Type 0} (full : List A) (i : ℕ) (x : A) (rest : List A) → drop i full ≡ x ∷ rest → slice_get full i ≡ Some x

@@ -9,7 +9,8 @@ use Rattle.basis.specs.declared.action.Kind.{Kind}
 use Rattle.effects.specs.Laws.{Closed, Laws}
 use Rattle.rulebooks.specs.Books.{Book}
 use Rattle.sheet.specs.Content.{Content}
-use Rattle.envelope.specs.Entries.{Entry, entries, nowhere, parts_of, acts}
+use Rattle.envelope.specs.declared.entry.Entry.{Entry}
+use Rattle.envelope.specs.Entries.{entries, nowhere, parts_of, acts}
 use Rattle.envelope.specs.Choices.{greatest_part, first_greatest, event_effect, event_of}
 use Rattle.envelope.proofs.Values.{Reaches, Lg, wider}
 use Rattle.envelope.proofs.Tops.{Larges, top_of}

@@ -5,7 +5,8 @@ use Rattle.std.specs.List.{FoldsTo}
 use Rattle.sheet.specs.Content.{Content}
 use Rattle.sheet.specs.Limits.{variables}
 use Rattle.effects.specs.Components.{zeros, exact_multiple}
-use Rattle.envelope.specs.Entries.{Entry, entries, nowhere, parts_of, has}
+use Rattle.envelope.specs.declared.entry.Entry.{Entry}
+use Rattle.envelope.specs.Entries.{entries, nowhere, parts_of, has}
 use Rattle.envelope.specs.Combinations.{weighted}
 use Rattle.envelope.specs.Layout.{contribution_by}
 use Rattle.envelope.proofs.Walk.{Placed, placed_yes}

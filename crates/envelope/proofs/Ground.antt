@@ -13,7 +13,8 @@ use Rattle.rulebooks.specs.Books.{Book}
 use Rattle.sheet.specs.declared.action.Action.{Action}
 use Rattle.sheet.specs.Content.{Content}
 use Rattle.sheet.specs.Limits.{no_action, agree, parts_allowed, Limited, Formed}
-use Rattle.envelope.specs.Entries.{Entry, entries, parts_of, nowhere}
+use Rattle.envelope.specs.declared.entry.Entry.{Entry}
+use Rattle.envelope.specs.Entries.{entries, parts_of, nowhere}
 use Rattle.envelope.specs.Supplied.{Supplied, OneAction}
 use Rattle.envelope.proofs.Numbering.{entry_at, entries_length, entry_parts, at_number, at_action, of_number}
 use Rattle.envelope.proofs.Weights.{parts_of_values}
@@ -103,3 +104,9 @@ pub of_turn : (s : Content) (P : Entry → Type 0) (list : List Entry) (i : ℕ)
 of_turn s P list i laid l each =
     let here : get_or list i nowhere ≡ entry_at s i = ap (λ (d : List Entry). get_or d i nowhere) laid in
     rw here (of_number s P i (omega (arith, ap length laid, entries_length 0 0 0 s.actions)) each)
+
+-- an action's parts among the effects
+pub at_hand : {E : Type 0} (components : E → List ℤ) (sheet : Sheet) (list : List Entry) (es : List E) (e : Entry) → list ≡ entries (content sheet) → Supplied (content sheet) (map components es)
+    → Contains list e → AtHand components es e
+at_hand components sheet list es e is supplied member =
+    All-contains (AtHand components es) list e (All-from_get_or (AtHand components es) list nowhere (λ i l. at_turn components (content sheet) es sheet.formed supplied list i is l)) member

@@ -15,7 +15,8 @@ use Rattle.sheet.specs.Content.{Content}
 use Rattle.sheet.specs.Limits.{variables}
 use Rattle.envelope.specs.declared.strip.Role.TheVariants.{Leading, Accompanying}
 use Rattle.envelope.specs.Places.{places}
-use Rattle.envelope.specs.Entries.{Entry, entries, parts_of, has, nowhere}
+use Rattle.envelope.specs.declared.entry.Entry.{Entry}
+use Rattle.envelope.specs.Entries.{entries, parts_of, has, nowhere}
 use Rattle.envelope.specs.Combinations.{weighted, at}
 use Rattle.envelope.specs.Choices.{choice}
 use Rattle.envelope.specs.Reported.{with_chosen, chosen_mask, kind_mask}

@@ -46,4 +46,3 @@ pub mod Ground
 pub mod EventWalk
 pub mod MaskWalk
 pub mod BaseWalk
-pub mod Slots

@@ -9,7 +9,8 @@ use Rattle.rulebooks.specs.Books.{Book}
 use Rattle.sheet.specs.Content.{Content}
 use Rattle.sheet.specs.Limits.{variables}
 use Rattle.envelope.specs.Places.{places}
-use Rattle.envelope.specs.Entries.{Entry, entries, parts_of, has, whole, nowhere}
+use Rattle.envelope.specs.declared.entry.Entry.{Entry}
+use Rattle.envelope.specs.Entries.{entries, parts_of, has, whole, nowhere}
 use Rattle.envelope.specs.Combinations.{named}
 use Rattle.envelope.specs.Choices.{choice, event_choice}
 use Rattle.envelope.specs.Reported.{chosen_event, kind_mask, chosen_mask}

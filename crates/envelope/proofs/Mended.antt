@@ -10,7 +10,8 @@ use Rattle.rulebooks.specs.Books.{Form, Book}
 use Rattle.sheet.specs.declared.action.Action.{Action}
 use Rattle.sheet.specs.Content.{Content}
 use Rattle.envelope.specs.declared.combination.Combination.{Combination}
-use Rattle.envelope.specs.Entries.{Entry, entries, parts_of, acts, has, whole}
+use Rattle.envelope.specs.declared.entry.Entry.{Entry}
+use Rattle.envelope.specs.Entries.{entries, parts_of, acts, has, whole}
 use Rattle.envelope.specs.Combinations.{mask, named, share}
 use Rattle.envelope.specs.Admissible.{Admissible, SpreadKept, EventMask}
 use Rattle.envelope.specs.Choices.{choice}

@@ -11,7 +11,8 @@ use Rattle.sheet.specs.declared.action.Action.{Action}
 use Rattle.sheet.specs.Content.{Content, action_at}
 use Rattle.sheet.specs.Limits.{no_action, parts_in}
 use Rattle.envelope.specs.Places.{places}
-use Rattle.envelope.specs.Entries.{Entry, entries_from, entries, nowhere, has}
+use Rattle.envelope.specs.declared.entry.Entry.{Entry}
+use Rattle.envelope.specs.Entries.{entries_from, entries, nowhere, has}
 use Rattle.envelope.proofs.Bits.{has_more}
 
 pub entries_length : (i k p : ℕ) (list : List Action) → length (entries_from i k p list) ≡ length list

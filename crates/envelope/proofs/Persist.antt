@@ -19,7 +19,8 @@ use Rattle.sheet.specs.Content.{Content, action_at, variable_at}
 use Rattle.sheet.specs.Limits.{no_action}
 use Rattle.sheet.specs.Calls.{switched}
 use Rattle.envelope.specs.declared.combination.Combination.{Combination}
-use Rattle.envelope.specs.Entries.{Entry, entries_from, entries, parts_of, acts, has}
+use Rattle.envelope.specs.declared.entry.Entry.{Entry}
+use Rattle.envelope.specs.Entries.{entries_from, entries, parts_of, acts, has}
 use Rattle.envelope.specs.Combinations.{mask, named, present, set_number, factor, coefficient, weighted, share, effect_of}
 use Rattle.envelope.specs.Admissible.{Admissible, Led, EventNamed, active_parts}
 use Rattle.envelope.proofs.Growth.{gains, Resumed, Grown, Extends}

@@ -12,7 +12,8 @@ use Rattle.sheet.specs.Content.{Content, action_at}
 use Rattle.sheet.specs.Limits.{no_action, variables}
 use Rattle.envelope.specs.declared.combination.Combination.{Combination}
 use Rattle.envelope.specs.Places.{places}
-use Rattle.envelope.specs.Entries.{Entry, entries, nowhere}
+use Rattle.envelope.specs.declared.entry.Entry.{Entry}
+use Rattle.envelope.specs.Entries.{entries, nowhere}
 use Rattle.envelope.specs.Combinations.{present}
 use Rattle.envelope.specs.Admissible.{Led, EventNamed}
 use Rattle.envelope.specs.Reported.{with_chosen, chosen_event, Reported}

@@ -15,7 +15,8 @@ use Rattle.rulebooks.specs.Books.{Form, Book}
 use Rattle.sheet.specs.Content.{Content}
 use Rattle.sheet.specs.Limits.{parts_in}
 use Rattle.envelope.specs.declared.combination.Combination.{Combination}
-use Rattle.envelope.specs.Entries.{Entry, entries, parts_of, has}
+use Rattle.envelope.specs.declared.entry.Entry.{Entry}
+use Rattle.envelope.specs.Entries.{entries, parts_of, has}
 use Rattle.envelope.specs.Combinations.{mask, named, weighted, factor, coefficient, share}
 use Rattle.envelope.proofs.Values.{long, zero_value}
 use Rattle.envelope.proofs.Weights.{Parts, weighted_value, weighted_none, weighted_same}

@@ -13,7 +13,8 @@ use Rattle.effects.specs.Supplies.{exact_total}
 use Rattle.effects.specs.Laws.{Closed, Laws}
 use Rattle.effects.specs.Lists.{zeros_sum}
 use Rattle.effects.proofs.Totals.{sum_assoc, sum_zeros}
-use Rattle.envelope.specs.Entries.{Entry, entries_from}
+use Rattle.envelope.specs.declared.entry.Entry.{Entry}
+use Rattle.envelope.specs.Entries.{entries_from}
 use Rattle.envelope.proofs.Values.{Value, Reaches, wider, zero_value, sum_value, level, sums, sum_comm}
 
 -- two sums in one

@@ -8,7 +8,8 @@ use Rattle.basis.specs.Vocabulary.{is_variable}
 use Rattle.sheet.specs.declared.action.Action.{Action}
 use Rattle.sheet.specs.Content.{Content}
 use Rattle.sheet.specs.Limits.{variables}
-use Rattle.envelope.specs.Entries.{Entry, entries_from, entries, nowhere}
+use Rattle.envelope.specs.declared.entry.Entry.{Entry}
+use Rattle.envelope.specs.Entries.{entries_from, entries, nowhere}
 use Rattle.envelope.proofs.Numbering.{entry_at, entries_length, each_number}
 use Rattle.envelope.proofs.Totals.{numbers_from}
 use Rattle.envelope.proofs.Events.{kept_place}

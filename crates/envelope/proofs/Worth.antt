@@ -13,7 +13,8 @@ use Rattle.rulebooks.specs.Books.{Book}
 use Rattle.sheet.specs.declared.action.Action.{Action}
 use Rattle.sheet.specs.Content.{Content}
 use Rattle.sheet.specs.Limits.{variables}
-use Rattle.envelope.specs.Entries.{Entry, entries_from, entries, parts_of, has}
+use Rattle.envelope.specs.declared.entry.Entry.{Entry}
+use Rattle.envelope.specs.Entries.{entries_from, entries, parts_of, has}
 use Rattle.envelope.specs.Combinations.{named, weighted, at, effect_of}
 use Rattle.envelope.specs.Choices.{choice}
 use Rattle.envelope.specs.Reported.{with_chosen, base_share}

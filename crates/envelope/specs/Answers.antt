@@ -11,7 +11,8 @@ use Rattle.envelope.specs.declared.combination.Combination.{Combination}
 use Rattle.envelope.specs.declared.combination.Extreme.{Extreme}
 use Rattle.envelope.specs.declared.combination.Refusal.{Refusal}
 use Rattle.envelope.specs.declared.combination.Refusal.TheVariants.{NotAsManyEffects, ShortStrip, TooLarge, NoEvent}
-use Rattle.envelope.specs.Entries.{Entry, entries, parts_of, acts, has}
+use Rattle.envelope.specs.declared.entry.Entry.{Entry}
+use Rattle.envelope.specs.Entries.{entries, parts_of, acts, has}
 use Rattle.envelope.specs.Combinations.{weighted, at}
 use Rattle.envelope.specs.Choices.{choice}
 use Rattle.envelope.specs.Reported.{effect, reported, every}

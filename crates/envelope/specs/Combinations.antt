@@ -8,7 +8,8 @@ use Rattle.effects.specs.Supplies.{exact_total}
 use Rattle.rulebooks.specs.Books.{Form, Book}
 use Rattle.sheet.specs.Content.{Content, variable_at}
 use Rattle.envelope.specs.declared.combination.Combination.{Combination}
-use Rattle.envelope.specs.Entries.{Entry, entries, parts_of, has}
+use Rattle.envelope.specs.declared.entry.Entry.{Entry}
+use Rattle.envelope.specs.Entries.{entries, parts_of, has}
 
 -- the mask of action i
 abbrev pub mask : Combination → ℕ → ℕ

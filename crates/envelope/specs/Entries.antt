@@ -3,16 +3,9 @@ use Rattle.std.specs.Prelude.{ℕ, zero, suc, ◌+◌, ◌/◌, ◌%◌, ◌^◌
 use Rattle.basis.specs.declared.action.Kind.{Kind}
 use Rattle.basis.specs.Vocabulary.{is_variable, same_kind}
 use Rattle.sheet.specs.declared.action.Action.{Action}
+use Rattle.envelope.specs.declared.entry.Entry.{Entry}
 use Rattle.sheet.specs.Content.{Content}
 use Rattle.sheet.specs.Limits.{no_action}
-
--- An action with its number, its place among the variable actions (the number of those before it), and the number of its
--- first part. Parts are numbered through the whole sheet, action after action.
-pub record Entry : Type 0 where
-  pub number : ℕ
-  pub place : ℕ
-  pub first : ℕ
-  pub action : Action
 
 -- the entries from action i on, at place k, with first part p
 abbrev pub entries_from : ℕ → ℕ → ℕ → List Action → List Entry

@@ -15,4 +15,3 @@ pub mod Layout
 pub mod Supplied
 pub mod Walks
 pub mod Runs
-pub mod Slots

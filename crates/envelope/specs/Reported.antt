@@ -8,7 +8,8 @@ use Rattle.sheet.specs.Content.{Content}
 use Rattle.sheet.specs.Limits.{variables}
 use Rattle.envelope.specs.Places.{places}
 use Rattle.envelope.specs.declared.combination.Combination.{Combination}
-use Rattle.envelope.specs.Entries.{Entry, entries, parts_of, has, whole}
+use Rattle.envelope.specs.declared.entry.Entry.{Entry}
+use Rattle.envelope.specs.Entries.{entries, parts_of, has, whole}
 use Rattle.envelope.specs.Combinations.{named, present, set_number, share, effect_of}
 use Rattle.envelope.specs.Admissible.{Admissible}
 use Rattle.basis.specs.Vocabulary.{is_variable, event_kind}

@@ -5,7 +5,8 @@ use Rattle.basis.specs.declared.action.Kind.TheVariants.{Permanent, Prestress, V
 use Rattle.basis.specs.Vocabulary.{is_variable}
 use Rattle.effects.specs.Components.{zeros}
 use Rattle.rulebooks.specs.Books.{Form}
-use Rattle.envelope.specs.Entries.{Entry, has, whole}
+use Rattle.envelope.specs.declared.entry.Entry.{Entry}
+use Rattle.envelope.specs.Entries.{has, whole}
 use Rattle.envelope.specs.Combinations.{named, weighted, factor}
 use Rattle.envelope.specs.Choices.{choice, at_upper, event_choice}
 

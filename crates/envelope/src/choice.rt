@@ -3,21 +3,19 @@ ghost use Rattle.std.specs.Prelude.{◌≡◌, ◌<◌, ◌≤◌, map, length, 
 ghost use Rattle.basis.specs.declared.action.Spread.TheVariants.{Free};
 ghost use Rattle.effects.specs.Components.{exact_multiple};
 ghost use Rattle.effects.specs.Laws.{Small};
-ghost use Rattle.sheet.specs.Content.{content};
-ghost use Rattle.envelope.specs.Entries.{entries as entries_of, parts_of as own_parts, has as in_set, whole};
+ghost use Rattle.envelope.specs.Entries.{parts_of as own_parts, has as in_set, whole};
 ghost use Rattle.envelope.specs.Combinations.{weighted, by_mask};
 ghost use Rattle.envelope.specs.Choices.{above_zero, greatest_part, choice, at_upper, event_choice, event_effect};
-ghost use Rattle.envelope.specs.Supplied.{Supplied};
-ghost use Rattle.envelope.specs.Slots.{entry_of};
 
-use crate::entry::Slot;
+use crate::case::Case;
+use crate::entry::Entry;
 use crate::layout::parts_of;
 use crate::sets::has;
 use basis::action::Spread;
 use basis::factor::Factor;
 use effects::effect::Effect;
 use effects::supply::{greatest, total_of};
-use sheet::plain::Sheet;
+use rulebooks::rulebook::Rulebook;
 use std::marker::Model;
 
 // The effects of the parts of one action: at least one, at most sixteen, and small enough that no sum of them stops. Contracts
@@ -46,18 +44,14 @@ fn is_above_zero<E: Effect>(effect: E) -> bool
 }
 
 impl<'a, E: Effect> Parts<'a, E> {
-    // The parts of an action of a sheet, among the effects that are supplied for it.
-    pub(crate) fn of(sheet: &Sheet, entries: &[Slot], effects: &'a [E], entry: &Slot) -> Self
-        requires laid { map entry_of entries.now ≡ entries_of (content sheet.now) }
-        requires supplied { Supplied (content sheet.now) (map E.components effects.now) }
-        requires member { Contains entries.now entry.now }
-        ensures own { result ≡ own_parts (map E.components effects.now) (entry_of entry.now) }
+    // The parts of an action of the case's sheet.
+    pub(crate) fn of<R: Rulebook>(case: &Case<'a, R, E>, entry: &Entry) -> Self
+        requires { Contains case.now.entries.now entry.now }
+        ensures own { result ≡ own_parts (map E.components case.now.effects.now) entry.now }
         ensures all { length result ≡ entry.now.action.parts }
     {
-        let _ = sheet;
-        let _ = entries;
         Parts {
-            effects: parts_of(effects, entry),
+            effects: parts_of(case.effects, entry),
         }
     }
 

@@ -4,6 +4,7 @@
 ghost use Rattle.envelope.specs.Figures.{Figures, ToldApart};
 
 mod base;
+mod case;
 mod choice;
 pub mod combination;
 mod entry;
@@ -11,6 +12,7 @@ pub mod envelope;
 mod layout;
 mod leaders;
 mod masks;
+mod prepared;
 pub mod promise;
 mod report;
 mod roster;

@@ -1,20 +1,17 @@
 // The event action, and the masks of all actions.
 ghost use Rattle.std.specs.Prelude.{◌≡◌, map, if◌then◌else◌, Some, None};
 ghost use Rattle.sheet.specs.Content.{content};
-ghost use Rattle.envelope.specs.Entries.{entries as entries_of, acts as does_act};
-ghost use Rattle.envelope.specs.Choices.{event_of};
+ghost use Rattle.envelope.specs.Entries.{acts as does_act};
 ghost use Rattle.envelope.specs.Reported.{chosen_event, with_chosen};
-ghost use Rattle.envelope.specs.Supplied.{Supplied};
 ghost use Rattle.envelope.specs.Walks.{full_mask};
-ghost use Rattle.envelope.specs.Slots.{entry_of};
 
+use crate::case::Case;
 use crate::choice::Parts;
-use crate::entry::Slot;
+use crate::entry::Entry;
 use basis::action::Kind;
 use effects::effect::Effect;
-use rulebooks::rulebook::Rulebook;
+use rulebooks::rulebook::{Rulebook, situation_of};
 use sheet::action::Action;
-use sheet::plain::Sheet;
 
 // Whether an action is active and of the kind.
 pub(crate) fn acts(action: &Action, kind: Kind) -> bool
@@ -40,33 +37,9 @@ fn greater<E: Effect>(best: Option<Ranked<E>>, next: Ranked<E>) -> Ranked<E>
     }
 }
 
-// The event action: the first of greatest effect among the active actions of the kind.
-pub(crate) fn chosen_event<E: Effect>(
-    sheet: &Sheet,
-    entries: &[Slot],
-    effects: &[E],
-    kind: Option<Kind>,
-) -> Option<usize>
-    requires laid { map entry_of entries.now ≡ entries_of (content sheet.now) }
-    requires supplied { Supplied (content sheet.now) (map E.components effects.now) }
-    ensures { result ≡ event_of E.count E.reaches kind (content sheet.now) (map E.components effects.now) }
-{
-    let sought = kind?;
-    let mut best: Option<Ranked<E>> = None;
-    for entry in entries {
-        if acts(&entry.action, sought) {
-            let parts = Parts::of(sheet, entries, effects, entry);
-            let effect = parts.event_effect(entry.action.spread);
-            let number = entry.number;
-            best = Some(greater(best, Ranked { number, effect }));
-        }
-    }
-    best.map(|best| best.number)
-}
-
 // The mask of an action, as if every variable action with a choice were present.
-fn mask_of<E: Effect>(entry: &Slot, parts: &Parts<E>, splits: bool, event: Option<usize>) -> u16
-    ensures { result ≡ full_mask E.count E.reaches splits event (entry_of entry.now) parts.now }
+fn mask_of<E: Effect>(entry: &Entry, parts: &Parts<E>, splits: bool, event: Option<usize>) -> u16
+    ensures { result ≡ full_mask E.count E.reaches splits event entry.now parts.now }
 {
     if !entry.action.active {
         return 0;
@@ -85,24 +58,33 @@ fn mask_of<E: Effect>(entry: &Slot, parts: &Parts<E>, splits: bool, event: Optio
     }
 }
 
-// The masks of all actions, by number.
-pub(crate) fn full_masks<R: Rulebook, E: Effect>(
-    sheet: &Sheet,
-    entries: &[Slot],
-    effects: &[E],
-    book: &R,
-    event: Option<usize>,
-) -> [u16; 32]
-    requires laid { map entry_of entries.now ≡ entries_of (content sheet.now) }
-    requires supplied { Supplied (content sheet.now) (map E.components effects.now) }
-    requires chosen { event ≡ chosen_event E.count E.reaches (content sheet.now) (R.meaning book.now) (map E.components effects.now) }
-    ensures { result ≡ (with_chosen E.count E.reaches (content sheet.now) (R.meaning book.now) (map E.components effects.now) 0 None 4095).masks }
-{
-    let splits = book.splits();
-    let mut masks = [0; 32];
-    for entry in entries {
-        let parts = Parts::of(sheet, entries, effects, entry);
-        masks[entry.number] = mask_of(entry, &parts, splits, event);
+impl<'a, R: Rulebook, E: Effect> Case<'a, R, E> {
+    // The event action, where the situation has one: the first of greatest effect among the active actions of its kind.
+    pub(crate) fn chosen_event(&self) -> Option<usize>
+        ensures { result ≡ chosen_event E.count E.reaches (content self.now.sheet.now) (R.meaning self.now.book.now) (map E.components self.now.effects.now) }
+    {
+        let sought = situation_of(self.book).event_kind()?;
+        let mut best: Option<Ranked<E>> = None;
+        for entry in self.entries {
+            if acts(&entry.action, sought) {
+                let effect = Parts::of(self, entry).event_effect(entry.action.spread);
+                let number = entry.number;
+                best = Some(greater(best, Ranked { number, effect }));
+            }
+        }
+        best.map(|best| best.number)
     }
-    masks
+
+    // The masks of all actions, by number.
+    pub(crate) fn full_masks(&self, event: Option<usize>) -> [u16; 32]
+        requires { event ≡ chosen_event E.count E.reaches (content self.now.sheet.now) (R.meaning self.now.book.now) (map E.components self.now.effects.now) }
+        ensures { result ≡ (with_chosen E.count E.reaches (content self.now.sheet.now) (R.meaning self.now.book.now) (map E.components self.now.effects.now) 0 None 4095).masks }
+    {
+        let splits = self.book.splits();
+        let mut masks = [0; 32];
+        for entry in self.entries {
+            masks[entry.number] = mask_of(entry, &Parts::of(self, entry), splits, event);
+        }
+        masks
+    }
 }

@@ -1,21 +1,14 @@
 // The strip: what each variable action gives as the leader, and then what it gives beside one.
 ghost use Rattle.std.specs.Prelude.{◌≡◌, ◌≤◌, ◌++◌, map, length, drop};
-ghost use Rattle.std.specs.List.{AllByRecursion};
-ghost use Rattle.effects.specs.Components.{size};
 ghost use Rattle.sheet.specs.Content.{content};
-ghost use Rattle.sheet.specs.Limits.{parts_in};
-ghost use Rattle.envelope.specs.Entries.{entries as entries_of};
 ghost use Rattle.envelope.specs.Layout.{role_factor, role_half, both_halves};
-ghost use Rattle.envelope.specs.Supplied.{Supplied};
-ghost use Rattle.envelope.specs.Slots.{entry_of};
 
 use crate::choice::Parts;
-use crate::entry::Slot;
+use crate::prepared::Prepared;
 use basis::category::Category;
 use basis::factor::Factor;
 use effects::effect::Effect;
 use rulebooks::rulebook::Rulebook;
-use sheet::plain::Sheet;
 
 // How a variable action acts beside the others.
 #[derive(Clone, Copy)]
@@ -38,69 +31,30 @@ fn factor_of<R: Rulebook>(book: &R, form: u8, role: Role, category: Option<Categ
     }
 }
 
-// Fills a half of the strip: at each variable action's place its contribution at the factor of its role, zero elsewhere.
-pub(crate) fn fill<R: Rulebook, E: Effect>(
-    half: &mut [E],
-    sheet: &Sheet,
-    entries: &[Slot],
-    masks: &[u16],
-    effects: &[E],
-    book: &R,
-    form: u8,
-    role: Role,
-)
-    requires long { length half.old ≡ 12 }
-    requires listed { map entry_of entries.now ≡ entries_of (content sheet.now) }
-    requires masked { length masks.now ≡ 32 }
-    requires supplied { Supplied (content sheet.now) (map E.components effects.now) }
-    ensures { map E.components half.new ≡ role_half E.count (map E.components effects.now) masks.now ((R.meaning book.now).form form) role (content sheet.now) }
-{
-    half.fill_with(|| E::zero());
-    for entry in entries {
-        if entry.action.kind.is_variable() {
-            let parts = Parts::of(sheet, entries, effects, entry);
-            let factor = factor_of(book, form, role, entry.action.category);
-            half[entry.place] = parts.contribution(masks[entry.number], factor);
+impl<'a, R: Rulebook, E: Effect> Prepared<'a, R, E> {
+    // Fills a half of the strip: at each variable action's place its contribution at the factor of its role, zero elsewhere.
+    fn fill(&self, half: &mut [E], form: u8, role: Role)
+        requires { length half.old ≡ 12 }
+        ensures { map E.components half.new ≡ role_half E.count (map E.components self.now.case.now.effects.now) self.now.masks.now ((R.meaning self.now.case.now.book.now).form form) role (content self.now.case.now.sheet.now) }
+    {
+        let case = self.case;
+        half.fill_with(|| E::zero());
+        for entry in case.entries {
+            if entry.action.kind.is_variable() {
+                let factor = factor_of(case.book, form, role, entry.action.category);
+                let parts = Parts::of(case, entry);
+                half[entry.place] = parts.contribution(self.masks[entry.number], factor);
+            }
         }
     }
-}
 
-// Fills the leading half of a strip and then the accompanying half; the rest of the strip stays as it was.
-pub(crate) fn fill_strip<R: Rulebook, E: Effect>(
-    strip: &mut [E],
-    sheet: &Sheet,
-    entries: &[Slot],
-    masks: &[u16],
-    effects: &[E],
-    book: &R,
-    form: u8,
-)
-    requires long { 24 ≤ length strip.old }
-    requires listed { map entry_of entries.now ≡ entries_of (content sheet.now) }
-    requires masked { length masks.now ≡ 32 }
-    requires complete { length effects.now ≡ parts_in (content sheet.now).actions }
-    requires small { AllByRecursion (λ xs. size xs ≤ 1_000_000_000) (map E.components effects.now) }
-    ensures halves { map E.components strip.new ≡ both_halves E.count (map E.components effects.now) masks.now ((R.meaning book.now).form form) (content sheet.now) ++ drop 24 (map E.components strip.old) }
-    ensures rest { drop 24 strip.new ≡ drop 24 strip.old }
-{
-    fill(
-        &mut strip[0..12],
-        sheet,
-        entries,
-        masks,
-        effects,
-        book,
-        form,
-        Role::Leading,
-    );
-    fill(
-        &mut strip[12..24],
-        sheet,
-        entries,
-        masks,
-        effects,
-        book,
-        form,
-        Role::Accompanying,
-    );
+    // Fills the leading half of a strip and then the accompanying half; the rest of the strip stays as it was.
+    pub(crate) fn fill_strip(&self, strip: &mut [E], form: u8)
+        requires { 24 ≤ length strip.old }
+        ensures halves { map E.components strip.new ≡ both_halves E.count (map E.components self.now.case.now.effects.now) self.now.masks.now ((R.meaning self.now.case.now.book.now).form form) (content self.now.case.now.sheet.now) ++ drop 24 (map E.components strip.old) }
+        ensures rest { drop 24 strip.new ≡ drop 24 strip.old }
+    {
+        self.fill(&mut strip[0..12], form, Role::Leading);
+        self.fill(&mut strip[12..24], form, Role::Accompanying);
+    }
 }

@@ -11,7 +11,7 @@ use Rattle.envelope.proofs.Numbering.{places_length}
 use Rattle.envelope.proofs.Ground.{sound_of, laws_of, grounded}
 use Rattle.envelope.proofs.Recorded.{leader_fits, event_fits, recorded, reported_so, strip_left}
 use Rattle.envelope.proofs.report.report.Given as given
-use Rattle.envelope.proofs.Slots.{laid_here}
+use Rattle.envelope.proofs.Recorded.{laid_here}
 use Rattle.envelope.proofs.report.report.Goals as goal
 
 -- the sheet with its effects and the rulebook

@@ -1,0 +1,39 @@
+use Rattle.std.proofs.Common.{◌<◌, map, get_or, refl, rules}
+use Rattle.rulebooks.specs.Books.{Book}
+use Rattle.sheet.specs.Content.{Content, content}
+use Rattle.envelope.specs.Entries.{nowhere}
+use Rattle.envelope.proofs.Variables.{placed}
+use Rattle.envelope.proofs.MaskWalk.{mask_is}
+use Rattle.envelope.proofs.MaskWalk.{mask_written, masks_done}
+use Rattle.envelope.proofs.Ground.{turn_within, of_turn}
+use Rattle.envelope.proofs.case.Case.full_masks.Goals as goal
+
+pub loop-entry-init : goal.loop-entry-init
+loop-entry-init g c = refl
+
+pub offset_bounds-masks-entry : goal.offset_bounds-masks-entry
+offset_bounds-masks-entry g c =
+    let h : (get_or c.args.self.now.entries.now c.loop-entry.entry-index nowhere).number < 32 =
+    turn_within (content c.args.self.now.sheet.now) c.args.self.now.entries.now c.loop-entry.entry-index c.args.self.now.laid c.args.self.now.sheet.now.limited.1 c.loop-entry-test.true in
+    search rules
+
+pub bounds-masks-entry : goal.bounds-masks-entry
+bounds-masks-entry g c = turn_within (content c.args.self.now.sheet.now) c.args.self.now.entries.now c.loop-entry.entry-index c.args.self.now.laid c.args.self.now.sheet.now.limited.1 c.loop-entry-test.true
+
+pub loop-entry-preserved : goal.loop-entry-preserved
+loop-entry-preserved g c =
+    let e = g.E.Effect in
+    let s : Content = content c.args.self.now.sheet.now in
+    let b : Book = g.R.Rulebook.meaning c.args.self.now.book.now in
+    let xss = map e.components c.args.self.now.effects.now in
+    let list = c.args.self.now.entries.now in
+    let i = c.loop-entry.entry-index in
+    let limits = c.args.self.now.sheet.now.limited in
+    let place = of_turn s _ list i c.args.self.now.laid c.loop-entry-test.true (placed s) in
+    let is = mask_is e.count e.reaches s b xss c.args.event (get_or list i nowhere) c.of-parts.result c.splits-splits.result c.mask_of.result c.requires c.splits-splits.ensures limits.2 place c.of-parts.ensures.own c.of-parts.ensures.all c.mask_of.ensures in
+    mask_written e.count e.reaches s b xss list i c.loop-entry.masks c.mask_of.result c.args.self.now.laid limits.1 c.loop-entry-test.true c.loop-entry.invariant is
+
+pub returns : goal.returns
+returns g c =
+    let e = g.E.Effect in
+    masks_done e.count e.reaches (content c.args.self.now.sheet.now) (g.R.Rulebook.meaning c.args.self.now.book.now) (map e.components c.args.self.now.effects.now) c.args.self.now.entries.now c.loop-entry.entry-index c.loop-entry.masks c.args.self.now.laid c.loop-entry-test.false c.loop-entry.invariant

@@ -4,7 +4,6 @@ ghost use Rattle.rulebooks.specs.Layers.{hundredths as hundredths_of, classed, C
 ghost use Rattle.rulebooks.specs.LayerLaws.{class_variable};
 ghost use Rattle.std.proofs.Common.{rules};
 
-use crate::constant::Constant;
 use crate::rulebook::Rulebook;
 use basis::category::Category;
 use basis::factor::Factor;
@@ -50,13 +49,13 @@ impl<R: Rulebook> ClassLayer<R> {
 }
 
 impl<R: Rulebook> Rulebook for ClassLayer<R> {
-    type When = R::When;
+    const SITUATION: Situation = R::SITUATION;
 
-    type Count = R::Count;
+    const FORMS: u8 = R::FORMS;
 
-    const SITUATION: R::When = R::SITUATION;
+    ghost SITUATION = { R.SITUATION };
 
-    const FORMS: R::Count = R::FORMS;
+    ghost FORMS = { R.FORMS };
 
     ghost meaning = { λ s. classed s.class (R.Rulebook.meaning s.below) };
 
@@ -64,23 +63,7 @@ impl<R: Rulebook> Rulebook for ClassLayer<R> {
 
     ghost counted = { Prim.search rules };
 
-    ghost some = { Prim.search rules };
-
-    ghost few = { Prim.search rules };
-
-    ghost permanent = { Prim.search rules };
-
-    ghost variable = { λ r i c.
-        let below = R.Rulebook.meaning r.below in
-        class_variable below.situation r.class (below.form i) c (R.Rulebook.variable r.below i c) };
-
-    ghost uppers = { Prim.search rules };
-
-    ghost prestresses = { Prim.search rules };
-
-    ghost leadings = { Prim.search rules };
-
-    ghost past = { Prim.search rules };
+    ghost laws = { Prim.search rules };
 
     fn splits(&self) -> bool {
         self.below.splits()
@@ -92,7 +75,7 @@ impl<R: Rulebook> Rulebook for ClassLayer<R> {
 
     fn upper(&self, form: u8) -> Factor {
         let upper = self.below.upper(form);
-        match R::SITUATION.get() {
+        match R::SITUATION {
             Situation::Persistent => upper
                 .scaled(self.class.hundredths())
                 .at_least(self.below.lower(form)),
@@ -110,7 +93,7 @@ impl<R: Rulebook> Rulebook for ClassLayer<R> {
 
     fn leading(&self, form: u8, category: Category) -> Factor {
         let leading = self.below.leading(form, category);
-        match R::SITUATION.get() {
+        match R::SITUATION {
             Situation::Persistent => leading.scaled(self.class.hundredths()),
             _ => leading,
         }
@@ -118,7 +101,7 @@ impl<R: Rulebook> Rulebook for ClassLayer<R> {
 
     fn accompanying(&self, form: u8, category: Category) -> Factor {
         let accompanying = self.below.accompanying(form, category);
-        match R::SITUATION.get() {
+        match R::SITUATION {
             Situation::Persistent => accompanying.scaled(self.class.hundredths()),
             _ => accompanying,
         }

@@ -2,45 +2,31 @@
 ghost use Rattle.rulebooks.specs.Table.{accidental, seismic};
 ghost use Rattle.std.proofs.Common.{rules};
 
-use crate::constant::{AccidentalSituation, Forms, SeismicSituation};
 use crate::row::{Row, Share, Term};
 use crate::standard::Expression;
 use basis::factor::Factor;
+use basis::situation::Situation;
 
 // 6.11b
 #[derive(Clone, Copy)]
 pub struct AccidentalDesign;
 
 impl Expression for AccidentalDesign {
-    type When = AccidentalSituation;
+    const SITUATION: Situation = Situation::Accidental;
 
-    type Count = Forms<1>;
-
-    const SITUATION: AccidentalSituation = AccidentalSituation;
-
-    const FORMS: Forms<1> = Forms;
+    const FORMS: u8 = 1;
 
     ghost book = { accidental };
+
+    ghost SITUATION = { accidental.situation };
+
+    ghost FORMS = { accidental.forms };
 
     ghost situated = { Prim.search rules };
 
     ghost counted = { Prim.search rules };
 
-    ghost some = { Prim.search rules };
-
-    ghost few = { Prim.search rules };
-
-    ghost permanent = { Prim.search rules };
-
-    ghost variable = { Prim.search rules };
-
-    ghost uppers = { Prim.search rules };
-
-    ghost prestresses = { Prim.search rules };
-
-    ghost leadings = { Prim.search rules };
-
-    ghost past = { Prim.search rules };
+    ghost laws = { Prim.search rules };
 
     fn splits() -> bool {
         false
@@ -61,35 +47,21 @@ impl Expression for AccidentalDesign {
 pub struct SeismicDesign;
 
 impl Expression for SeismicDesign {
-    type When = SeismicSituation;
+    const SITUATION: Situation = Situation::Seismic;
 
-    type Count = Forms<1>;
-
-    const SITUATION: SeismicSituation = SeismicSituation;
-
-    const FORMS: Forms<1> = Forms;
+    const FORMS: u8 = 1;
 
     ghost book = { seismic };
+
+    ghost SITUATION = { seismic.situation };
+
+    ghost FORMS = { seismic.forms };
 
     ghost situated = { Prim.search rules };
 
     ghost counted = { Prim.search rules };
 
-    ghost some = { Prim.search rules };
-
-    ghost few = { Prim.search rules };
-
-    ghost permanent = { Prim.search rules };
-
-    ghost variable = { Prim.search rules };
-
-    ghost uppers = { Prim.search rules };
-
-    ghost prestresses = { Prim.search rules };
-
-    ghost leadings = { Prim.search rules };
-
-    ghost past = { Prim.search rules };
+    ghost laws = { Prim.search rules };
 
     fn splits() -> bool {
         false

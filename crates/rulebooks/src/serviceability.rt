@@ -2,45 +2,31 @@
 ghost use Rattle.rulebooks.specs.Table.{characteristic, frequent, quasi_permanent};
 ghost use Rattle.std.proofs.Common.{rules};
 
-use crate::constant::{Forms, ServiceabilitySituation};
 use crate::row::{Row, Share, Term};
 use crate::standard::Expression;
 use basis::factor::Factor;
+use basis::situation::Situation;
 
 // 6.14b
 #[derive(Clone, Copy)]
 pub struct Characteristic;
 
 impl Expression for Characteristic {
-    type When = ServiceabilitySituation;
+    const SITUATION: Situation = Situation::Serviceability;
 
-    type Count = Forms<1>;
-
-    const SITUATION: ServiceabilitySituation = ServiceabilitySituation;
-
-    const FORMS: Forms<1> = Forms;
+    const FORMS: u8 = 1;
 
     ghost book = { characteristic };
+
+    ghost SITUATION = { characteristic.situation };
+
+    ghost FORMS = { characteristic.forms };
 
     ghost situated = { Prim.search rules };
 
     ghost counted = { Prim.search rules };
 
-    ghost some = { Prim.search rules };
-
-    ghost few = { Prim.search rules };
-
-    ghost permanent = { Prim.search rules };
-
-    ghost variable = { Prim.search rules };
-
-    ghost uppers = { Prim.search rules };
-
-    ghost prestresses = { Prim.search rules };
-
-    ghost leadings = { Prim.search rules };
-
-    ghost past = { Prim.search rules };
+    ghost laws = { Prim.search rules };
 
     fn splits() -> bool {
         false
@@ -61,35 +47,21 @@ impl Expression for Characteristic {
 pub struct Frequent;
 
 impl Expression for Frequent {
-    type When = ServiceabilitySituation;
+    const SITUATION: Situation = Situation::Serviceability;
 
-    type Count = Forms<1>;
-
-    const SITUATION: ServiceabilitySituation = ServiceabilitySituation;
-
-    const FORMS: Forms<1> = Forms;
+    const FORMS: u8 = 1;
 
     ghost book = { frequent };
+
+    ghost SITUATION = { frequent.situation };
+
+    ghost FORMS = { frequent.forms };
 
     ghost situated = { Prim.search rules };
 
     ghost counted = { Prim.search rules };
 
-    ghost some = { Prim.search rules };
-
-    ghost few = { Prim.search rules };
-
-    ghost permanent = { Prim.search rules };
-
-    ghost variable = { Prim.search rules };
-
-    ghost uppers = { Prim.search rules };
-
-    ghost prestresses = { Prim.search rules };
-
-    ghost leadings = { Prim.search rules };
-
-    ghost past = { Prim.search rules };
+    ghost laws = { Prim.search rules };
 
     fn splits() -> bool {
         false
@@ -110,35 +82,21 @@ impl Expression for Frequent {
 pub struct QuasiPermanent;
 
 impl Expression for QuasiPermanent {
-    type When = ServiceabilitySituation;
+    const SITUATION: Situation = Situation::Serviceability;
 
-    type Count = Forms<1>;
-
-    const SITUATION: ServiceabilitySituation = ServiceabilitySituation;
-
-    const FORMS: Forms<1> = Forms;
+    const FORMS: u8 = 1;
 
     ghost book = { quasi_permanent };
+
+    ghost SITUATION = { quasi_permanent.situation };
+
+    ghost FORMS = { quasi_permanent.forms };
 
     ghost situated = { Prim.search rules };
 
     ghost counted = { Prim.search rules };
 
-    ghost some = { Prim.search rules };
-
-    ghost few = { Prim.search rules };
-
-    ghost permanent = { Prim.search rules };
-
-    ghost variable = { Prim.search rules };
-
-    ghost uppers = { Prim.search rules };
-
-    ghost prestresses = { Prim.search rules };
-
-    ghost leadings = { Prim.search rules };
-
-    ghost past = { Prim.search rules };
+    ghost laws = { Prim.search rules };
 
     fn splits() -> bool {
         false

@@ -6,6 +6,7 @@ ghost use Rattle.std.proofs.Common.{rules};
 use crate::rulebook::Rulebook;
 use basis::category::Category;
 use basis::factor::Factor;
+use basis::situation::Situation;
 
 // Strikes one category: its leading and accompanying factors become 0.
 #[derive(Clone, Copy)]
@@ -25,13 +26,13 @@ impl<R: Rulebook> StageLayer<R> {
 }
 
 impl<R: Rulebook> Rulebook for StageLayer<R> {
-    type When = R::When;
+    const SITUATION: Situation = R::SITUATION;
 
-    type Count = R::Count;
+    const FORMS: u8 = R::FORMS;
 
-    const SITUATION: R::When = R::SITUATION;
+    ghost SITUATION = { R.SITUATION };
 
-    const FORMS: R::Count = R::FORMS;
+    ghost FORMS = { R.FORMS };
 
     ghost meaning = { λ s. staged s.struck (R.Rulebook.meaning s.below) };
 
@@ -39,21 +40,7 @@ impl<R: Rulebook> Rulebook for StageLayer<R> {
 
     ghost counted = { Prim.search rules };
 
-    ghost some = { Prim.search rules };
-
-    ghost few = { Prim.search rules };
-
-    ghost permanent = { Prim.search rules };
-
-    ghost variable = { Prim.search rules };
-
-    ghost uppers = { Prim.search rules };
-
-    ghost prestresses = { Prim.search rules };
-
-    ghost leadings = { Prim.search rules };
-
-    ghost past = { Prim.search rules };
+    ghost laws = { Prim.search rules };
 
     fn splits(&self) -> bool {
         self.below.splits()

@@ -2,45 +2,31 @@
 ghost use Rattle.rulebooks.specs.Table.{str_pair};
 ghost use Rattle.std.proofs.Common.{rules};
 
-use crate::constant::{Forms, PersistentSituation};
 use crate::row::{Row, Share, Term};
 use crate::standard::Expression;
 use basis::factor::Factor;
+use basis::situation::Situation;
 
 // 6.10a, and 6.10b with ξ = 0.85, with Table A1.2(B)
 #[derive(Clone, Copy)]
 pub struct StrPair;
 
 impl Expression for StrPair {
-    type When = PersistentSituation;
+    const SITUATION: Situation = Situation::Persistent;
 
-    type Count = Forms<2>;
-
-    const SITUATION: PersistentSituation = PersistentSituation;
-
-    const FORMS: Forms<2> = Forms;
+    const FORMS: u8 = 2;
 
     ghost book = { str_pair };
+
+    ghost SITUATION = { str_pair.situation };
+
+    ghost FORMS = { str_pair.forms };
 
     ghost situated = { Prim.search rules };
 
     ghost counted = { Prim.search rules };
 
-    ghost some = { Prim.search rules };
-
-    ghost few = { Prim.search rules };
-
-    ghost permanent = { Prim.search rules };
-
-    ghost variable = { Prim.search rules };
-
-    ghost uppers = { Prim.search rules };
-
-    ghost prestresses = { Prim.search rules };
-
-    ghost leadings = { Prim.search rules };
-
-    ghost past = { Prim.search rules };
+    ghost laws = { Prim.search rules };
 
     fn splits() -> bool {
         false

@@ -2,45 +2,31 @@
 ghost use Rattle.rulebooks.specs.Table.{equ, str, geo};
 ghost use Rattle.std.proofs.Common.{rules};
 
-use crate::constant::{Forms, PersistentSituation};
 use crate::row::{Row, Share, Term};
 use crate::standard::Expression;
 use basis::factor::Factor;
+use basis::situation::Situation;
 
 // 6.10 with Table A1.2(A)
 #[derive(Clone, Copy)]
 pub struct Equ;
 
 impl Expression for Equ {
-    type When = PersistentSituation;
+    const SITUATION: Situation = Situation::Persistent;
 
-    type Count = Forms<1>;
-
-    const SITUATION: PersistentSituation = PersistentSituation;
-
-    const FORMS: Forms<1> = Forms;
+    const FORMS: u8 = 1;
 
     ghost book = { equ };
+
+    ghost SITUATION = { equ.situation };
+
+    ghost FORMS = { equ.forms };
 
     ghost situated = { Prim.search rules };
 
     ghost counted = { Prim.search rules };
 
-    ghost some = { Prim.search rules };
-
-    ghost few = { Prim.search rules };
-
-    ghost permanent = { Prim.search rules };
-
-    ghost variable = { Prim.search rules };
-
-    ghost uppers = { Prim.search rules };
-
-    ghost prestresses = { Prim.search rules };
-
-    ghost leadings = { Prim.search rules };
-
-    ghost past = { Prim.search rules };
+    ghost laws = { Prim.search rules };
 
     fn splits() -> bool {
         true
@@ -61,35 +47,21 @@ impl Expression for Equ {
 pub struct Str;
 
 impl Expression for Str {
-    type When = PersistentSituation;
+    const SITUATION: Situation = Situation::Persistent;
 
-    type Count = Forms<1>;
-
-    const SITUATION: PersistentSituation = PersistentSituation;
-
-    const FORMS: Forms<1> = Forms;
+    const FORMS: u8 = 1;
 
     ghost book = { str };
+
+    ghost SITUATION = { str.situation };
+
+    ghost FORMS = { str.forms };
 
     ghost situated = { Prim.search rules };
 
     ghost counted = { Prim.search rules };
 
-    ghost some = { Prim.search rules };
-
-    ghost few = { Prim.search rules };
-
-    ghost permanent = { Prim.search rules };
-
-    ghost variable = { Prim.search rules };
-
-    ghost uppers = { Prim.search rules };
-
-    ghost prestresses = { Prim.search rules };
-
-    ghost leadings = { Prim.search rules };
-
-    ghost past = { Prim.search rules };
+    ghost laws = { Prim.search rules };
 
     fn splits() -> bool {
         false
@@ -110,35 +82,21 @@ impl Expression for Str {
 pub struct Geo;
 
 impl Expression for Geo {
-    type When = PersistentSituation;
+    const SITUATION: Situation = Situation::Persistent;
 
-    type Count = Forms<1>;
-
-    const SITUATION: PersistentSituation = PersistentSituation;
-
-    const FORMS: Forms<1> = Forms;
+    const FORMS: u8 = 1;
 
     ghost book = { geo };
+
+    ghost SITUATION = { geo.situation };
+
+    ghost FORMS = { geo.forms };
 
     ghost situated = { Prim.search rules };
 
     ghost counted = { Prim.search rules };
 
-    ghost some = { Prim.search rules };
-
-    ghost few = { Prim.search rules };
-
-    ghost permanent = { Prim.search rules };
-
-    ghost variable = { Prim.search rules };
-
-    ghost uppers = { Prim.search rules };
-
-    ghost prestresses = { Prim.search rules };
-
-    ghost leadings = { Prim.search rules };
-
-    ghost past = { Prim.search rules };
+    ghost laws = { Prim.search rules };
 
     fn splits() -> bool {
         false

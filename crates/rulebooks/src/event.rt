@@ -2,9 +2,8 @@
 ghost use Rattle.rulebooks.specs.Table.{accidental, seismic};
 ghost use Rattle.std.proofs.Common.{rules};
 
-use crate::row::{Row, Share, Term};
+use crate::row::{Row, Share};
 use crate::standard::Expression;
-use basis::factor::Factor;
 use basis::situation::Situation;
 
 // 6.11b
@@ -16,11 +15,11 @@ impl Expression for AccidentalDesign {
 
     const FORMS: u8 = 1;
 
-    ghost book = { accidental };
-
     ghost SITUATION = { accidental.situation };
 
     ghost FORMS = { accidental.forms };
+
+    ghost book = { accidental };
 
     ghost situated = { Prim.search rules };
 
@@ -33,12 +32,7 @@ impl Expression for AccidentalDesign {
     }
 
     fn row(_form: u8) -> Row {
-        Row::led(
-            Factor::ONE,
-            Factor::ONE,
-            Term::new(100, Share::Psi1),
-            Term::new(100, Share::Psi2),
-        )
+        Row::unfactored(Some(Share::Psi1), Share::Psi2)
     }
 }
 
@@ -51,11 +45,11 @@ impl Expression for SeismicDesign {
 
     const FORMS: u8 = 1;
 
-    ghost book = { seismic };
-
     ghost SITUATION = { seismic.situation };
 
     ghost FORMS = { seismic.forms };
+
+    ghost book = { seismic };
 
     ghost situated = { Prim.search rules };
 
@@ -68,6 +62,6 @@ impl Expression for SeismicDesign {
     }
 
     fn row(_form: u8) -> Row {
-        Row::unled(Factor::ONE, Factor::ONE, Term::new(100, Share::Psi2))
+        Row::unfactored(None, Share::Psi2)
     }
 }

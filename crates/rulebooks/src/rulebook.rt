@@ -1,6 +1,6 @@
 // What a rulebook offers, by the fixed numbers that it means.
 ghost use Rattle.std.specs.Prelude.{◌≡◌, ℕ};
-ghost use Rattle.basis.specs.declared.situation.Situation.{Situation as InSituation};
+ghost use Rattle.basis.specs.declared.situation.Situation.{Situation};
 ghost use Rattle.rulebooks.specs.Books.{Book, BookLaws};
 
 use basis::category::Category;
@@ -11,9 +11,11 @@ use basis::situation::Situation;
 pub trait Rulebook {
     const SITUATION: Situation;
 
+    // 1 or 2.
     const FORMS: u8;
 
-    ghost SITUATION: { InSituation };
+    // The constants as proofs know them.
+    ghost SITUATION: { Situation };
 
     ghost FORMS: { ℕ };
 
@@ -41,7 +43,7 @@ pub trait Rulebook {
     fn accompanying(&self, form: u8, category: Category) -> Factor
         ensures { result.units ≡ ((meaning self.now).form form).accompanying category };
 
-    // The constants are those that are meant.
+    // The constants are the situation and the number of forms that are meant.
     ghost situated: { (r : Self) → (meaning r).situation ≡ SITUATION };
 
     ghost counted: { (r : Self) → (meaning r).forms ≡ FORMS };

@@ -2,9 +2,8 @@
 ghost use Rattle.rulebooks.specs.Table.{characteristic, frequent, quasi_permanent};
 ghost use Rattle.std.proofs.Common.{rules};
 
-use crate::row::{Row, Share, Term};
+use crate::row::{Row, Share};
 use crate::standard::Expression;
-use basis::factor::Factor;
 use basis::situation::Situation;
 
 // 6.14b
@@ -16,11 +15,11 @@ impl Expression for Characteristic {
 
     const FORMS: u8 = 1;
 
-    ghost book = { characteristic };
-
     ghost SITUATION = { characteristic.situation };
 
     ghost FORMS = { characteristic.forms };
+
+    ghost book = { characteristic };
 
     ghost situated = { Prim.search rules };
 
@@ -33,12 +32,7 @@ impl Expression for Characteristic {
     }
 
     fn row(_form: u8) -> Row {
-        Row::led(
-            Factor::ONE,
-            Factor::ONE,
-            Term::new(100, Share::Whole),
-            Term::new(100, Share::Psi0),
-        )
+        Row::unfactored(Some(Share::Whole), Share::Psi0)
     }
 }
 
@@ -51,11 +45,11 @@ impl Expression for Frequent {
 
     const FORMS: u8 = 1;
 
-    ghost book = { frequent };
-
     ghost SITUATION = { frequent.situation };
 
     ghost FORMS = { frequent.forms };
+
+    ghost book = { frequent };
 
     ghost situated = { Prim.search rules };
 
@@ -68,12 +62,7 @@ impl Expression for Frequent {
     }
 
     fn row(_form: u8) -> Row {
-        Row::led(
-            Factor::ONE,
-            Factor::ONE,
-            Term::new(100, Share::Psi1),
-            Term::new(100, Share::Psi2),
-        )
+        Row::unfactored(Some(Share::Psi1), Share::Psi2)
     }
 }
 
@@ -86,11 +75,11 @@ impl Expression for QuasiPermanent {
 
     const FORMS: u8 = 1;
 
-    ghost book = { quasi_permanent };
-
     ghost SITUATION = { quasi_permanent.situation };
 
     ghost FORMS = { quasi_permanent.forms };
+
+    ghost book = { quasi_permanent };
 
     ghost situated = { Prim.search rules };
 
@@ -103,6 +92,6 @@ impl Expression for QuasiPermanent {
     }
 
     fn row(_form: u8) -> Row {
-        Row::unled(Factor::ONE, Factor::ONE, Term::new(100, Share::Psi2))
+        Row::unfactored(None, Share::Psi2)
     }
 }

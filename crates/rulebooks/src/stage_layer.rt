@@ -1,6 +1,6 @@
 // The stage layer: a category struck from any rulebook.
 ghost use Rattle.std.specs.Prelude.{◌≡◌};
-ghost use Rattle.rulebooks.specs.Layers.{staged, StageLeavesAlone};
+ghost use Rattle.rulebooks.specs.Layers.{without, staged, StageLeavesAlone};
 ghost use Rattle.std.proofs.Common.{rules};
 
 use crate::rulebook::Rulebook;
@@ -23,8 +23,20 @@ impl<R: Rulebook> StageLayer<R> {
     {
         StageLayer { struck, below }
     }
+
+    // The category's factor, or 0 for the struck category.
+    fn without_struck(&self, category: Category, factor: Factor) -> Factor
+        ensures { result.units ≡ without self.now.struck (λ _. factor.units) category }
+    {
+        if category == self.struck {
+            Factor::ZERO
+        } else {
+            factor
+        }
+    }
 }
 
+// What passes through stands in both layers: a trait of layers would take more members than these few methods.
 impl<R: Rulebook> Rulebook for StageLayer<R> {
     const SITUATION: Situation = R::SITUATION;
 
@@ -34,7 +46,7 @@ impl<R: Rulebook> Rulebook for StageLayer<R> {
 
     ghost FORMS = { R.FORMS };
 
-    ghost meaning = { λ s. staged s.struck (R.Rulebook.meaning s.below) };
+    ghost meaning = { λ s. staged s.struck (R.meaning s.below) };
 
     ghost situated = { Prim.search rules };
 
@@ -63,18 +75,10 @@ impl<R: Rulebook> Rulebook for StageLayer<R> {
     }
 
     fn leading(&self, form: u8, category: Category) -> Factor {
-        if category == self.struck {
-            Factor::ZERO
-        } else {
-            self.below.leading(form, category)
-        }
+        self.without_struck(category, self.below.leading(form, category))
     }
 
     fn accompanying(&self, form: u8, category: Category) -> Factor {
-        if category == self.struck {
-            Factor::ZERO
-        } else {
-            self.below.accompanying(form, category)
-        }
+        self.without_struck(category, self.below.accompanying(form, category))
     }
 }

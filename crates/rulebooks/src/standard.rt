@@ -1,6 +1,6 @@
 // The rulebook of an expression of EN 1990.
 ghost use Rattle.std.specs.Prelude.{◌≡◌, ℕ};
-ghost use Rattle.basis.specs.declared.situation.Situation.{Situation as InSituation};
+ghost use Rattle.basis.specs.declared.situation.Situation.{Situation};
 ghost use Rattle.rulebooks.specs.Books.{Book, BookLaws};
 ghost use Rattle.rulebooks.specs.Rows.{form_of};
 ghost use Rattle.std.proofs.Common.{rules};
@@ -17,12 +17,13 @@ pub trait Expression {
 
     const FORMS: u8;
 
-    ghost SITUATION: { InSituation };
+    ghost SITUATION: { Situation };
 
     ghost FORMS: { ℕ };
 
     ghost book: { Book };
 
+    // A function, since a constant would need a ghost member and a law beside it.
     fn splits() -> bool
         ensures { result ≡ book.splits };
 
@@ -49,13 +50,13 @@ impl<E: Expression> Rulebook for Standard<E> {
 
     ghost FORMS = { E.FORMS };
 
-    ghost meaning = { λ _. E.Expression.book };
+    ghost meaning = { λ _. E.book };
 
     ghost situated = { Prim.search rules };
 
     ghost counted = { Prim.search rules };
 
-    ghost laws = { λ _. E.Expression.laws };
+    ghost laws = { λ _. E.laws };
 
     fn splits(&self) -> bool {
         E::splits()

@@ -16,11 +16,11 @@ impl Expression for StrPair {
 
     const FORMS: u8 = 2;
 
-    ghost book = { str_pair };
-
     ghost SITUATION = { str_pair.situation };
 
     ghost FORMS = { str_pair.forms };
+
+    ghost book = { str_pair };
 
     ghost situated = { Prim.search rules };
 
@@ -34,18 +34,19 @@ impl Expression for StrPair {
 
     fn row(form: u8) -> Row {
         if form == 1 {
-            Row::led(
-                Factor::from_hundredths(135).scaled(85),
-                Factor::ONE,
-                Term::new(150, Share::Whole),
-                Term::new(150, Share::Psi0),
-            )
+            Row {
+                upper: Factor::from_hundredths(135).scaled(85),
+                lower: Factor::ONE,
+                leading: Some(Term::new(150, Share::Whole)),
+                accompanying: Term::new(150, Share::Psi0),
+            }
         } else {
-            Row::unled(
-                Factor::from_hundredths(135),
-                Factor::ONE,
-                Term::new(150, Share::Psi0),
-            )
+            Row {
+                upper: Factor::from_hundredths(135),
+                lower: Factor::ONE,
+                leading: None,
+                accompanying: Term::new(150, Share::Psi0),
+            }
         }
     }
 }

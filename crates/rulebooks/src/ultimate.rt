@@ -16,11 +16,11 @@ impl Expression for Equ {
 
     const FORMS: u8 = 1;
 
-    ghost book = { equ };
-
     ghost SITUATION = { equ.situation };
 
     ghost FORMS = { equ.forms };
+
+    ghost book = { equ };
 
     ghost situated = { Prim.search rules };
 
@@ -33,12 +33,12 @@ impl Expression for Equ {
     }
 
     fn row(_form: u8) -> Row {
-        Row::led(
-            Factor::from_hundredths(110),
-            Factor::from_hundredths(90),
-            Term::new(150, Share::Whole),
-            Term::new(150, Share::Psi0),
-        )
+        Row {
+            upper: Factor::from_hundredths(110),
+            lower: Factor::from_hundredths(90),
+            leading: Some(Term::new(150, Share::Whole)),
+            accompanying: Term::new(150, Share::Psi0),
+        }
     }
 }
 
@@ -51,11 +51,11 @@ impl Expression for Str {
 
     const FORMS: u8 = 1;
 
-    ghost book = { str };
-
     ghost SITUATION = { str.situation };
 
     ghost FORMS = { str.forms };
+
+    ghost book = { str };
 
     ghost situated = { Prim.search rules };
 
@@ -68,12 +68,12 @@ impl Expression for Str {
     }
 
     fn row(_form: u8) -> Row {
-        Row::led(
-            Factor::from_hundredths(135),
-            Factor::ONE,
-            Term::new(150, Share::Whole),
-            Term::new(150, Share::Psi0),
-        )
+        Row {
+            upper: Factor::from_hundredths(135),
+            lower: Factor::ONE,
+            leading: Some(Term::new(150, Share::Whole)),
+            accompanying: Term::new(150, Share::Psi0),
+        }
     }
 }
 
@@ -86,11 +86,11 @@ impl Expression for Geo {
 
     const FORMS: u8 = 1;
 
-    ghost book = { geo };
-
     ghost SITUATION = { geo.situation };
 
     ghost FORMS = { geo.forms };
+
+    ghost book = { geo };
 
     ghost situated = { Prim.search rules };
 
@@ -103,11 +103,11 @@ impl Expression for Geo {
     }
 
     fn row(_form: u8) -> Row {
-        Row::led(
-            Factor::ONE,
-            Factor::ONE,
-            Term::new(130, Share::Whole),
-            Term::new(130, Share::Psi0),
-        )
+        Row {
+            upper: Factor::ONE,
+            lower: Factor::ONE,
+            leading: Some(Term::new(130, Share::Whole)),
+            accompanying: Term::new(130, Share::Psi0),
+        }
     }
 }

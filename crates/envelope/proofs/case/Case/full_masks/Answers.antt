@@ -30,7 +30,7 @@ loop-entry-preserved g c =
     let i = c.loop-entry.entry-index in
     let limits = c.args.self.now.sheet.now.limited in
     let place = of_turn s _ list i c.args.self.now.laid c.loop-entry-test.true (placed s) in
-    let is = mask_is e.count e.reaches s b xss c.args.event (get_or list i nowhere) c.of-parts.result c.splits-splits.result c.mask_of.result c.requires c.splits-splits.ensures limits.2 place c.of-parts.ensures.own c.of-parts.ensures.all c.mask_of.ensures in
+    let is = mask_is e.count e.reaches s b xss c.args.event (get_or list i nowhere) c.of.result c.splits-splits.result c.mask_of.result c.requires c.splits-splits.ensures limits.2 place c.of.ensures.own c.of.ensures.all c.mask_of.ensures in
     mask_written e.count e.reaches s b xss list i c.loop-entry.masks c.mask_of.result c.args.self.now.laid limits.1 c.loop-entry-test.true c.loop-entry.invariant is
 
 pub returns : goal.returns

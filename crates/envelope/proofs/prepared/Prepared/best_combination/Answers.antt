@@ -1,57 +1,31 @@
-use Rattle.std.proofs.Common.{◌≡◌, ◌+◌, ◌-◌, ◌<◌, List, ◌++◌, map, drop, sym, refl, ap, ◌∙◌, subst, arith}
+use Rattle.std.proofs.Common.{◌≡◌, ◌+◌, ◌-◌, ◌<◌, ◌++◌, map, drop, sym, refl, ap, ◌∙◌, subst, arith}
 use Rattle.rulebooks.specs.Books.{Book}
-use Rattle.sheet.specs.declared.plain.Sheet.{Sheet}
 use Rattle.sheet.specs.Content.{content}
 use Rattle.envelope.specs.declared.report.Candidate.{Candidate}
-use Rattle.envelope.specs.Supplied.{Supplied}
 use Rattle.envelope.specs.Reported.{with_chosen}
 use Rattle.envelope.specs.Layout.{both_halves}
 use Rattle.envelope.specs.Forms.{BestAmong}
-use Rattle.envelope.proofs.Setting.{Setting}
-use Rattle.envelope.proofs.Ground.{sound_of, laws_of, grounded}
+use Rattle.envelope.proofs.Ground.{setting}
 use Rattle.envelope.proofs.Forms.{Found, found_first, found_keeps, found_takes, rest_same}
-use Rattle.envelope.proofs.prepared.Prepared.best_combination.Given as given
 use Rattle.envelope.proofs.prepared.Prepared.best_combination.Goals as goal
 use Rattle.envelope.proofs.prepared.Prepared.best_combination.Goals.{then-not-at_or_above, else-not-at_or_above}
 
--- the sheet with its effects and the rulebook
-set_of : (g : given.Over) (sheet : Sheet) (book : g.row.R.Denot) (es : List g.row.E.Denot) → Supplied (content sheet) (map g.E.Effect.components es)
-    → Setting g.met.E.Effect.closed g.met.E.Effect.laws (content sheet) (g.R.Rulebook.meaning book) (map g.E.Effect.components es)
-set_of g sheet book es supplied =
-    let b : Book = g.R.Rulebook.meaning book in
-    let law = g.met.R.Rulebook in
-    grounded g.met.E.Effect.closed g.met.E.Effect.laws (content sheet) b es (sound_of _ (content sheet).actions sheet.limited sheet.formed)
-    (laws_of b (law.some book) (law.permanent book) (law.variable book) (law.uppers book) (law.prestresses book) (law.leadings book)) supplied
-
 pub best_in_form-best-requires : goal.best_in_form-best-requires
-best_in_form-best-requires g c = record {
-  laid = c.args.self.now.case.now.laid;
-  supplied = c.args.self.now.case.now.supplied;
-  full = c.args.self.now.full;
-  placed = c.args.self.now.placed;
-  one = omega (arith, g.met.R.Rulebook.some c.args.self.now.case.now.book.now);
-  hand = c.args.self.now.hand;
-  long = c.requires.long;
-}
+best_in_form-best-requires g c = record { one = omega (arith, (g.met.R.Rulebook.laws c.args.self.now.case.now.book.now).some); long = c.requires }
 
 pub loop-form-init : goal.loop-form-init
 loop-form-init g c =
     let met = g.met.E.Effect in
     let e = g.E.Effect in
     let best = c.best_in_form-best in
-    let set = set_of g c.args.self.now.case.now.sheet.now c.args.self.now.case.now.book.now c.args.self.now.case.now.effects.now c.args.self.now.case.now.supplied in
+    let set = setting met.closed met.laws c.args.self.now.case.now.sheet.now _ c.args.self.now.case.now.effects.now (g.met.R.Rulebook.laws c.args.self.now.case.now.book.now) c.args.self.now.case.now.supplied in
     let h = found_first met.closed met.laws _ _ _ set best.result.form best.result.leader best.result.set (e.components best.result.effect) best.ensures.form (best.ensures.best, best.ensures.effect) in
     (h.0, h.1, best.ensures.halves ∙ ap (λ r. both_halves e.count (map e.components c.args.self.now.case.now.effects.now) c.args.self.now.masks.now ((g.R.Rulebook.meaning c.args.self.now.case.now.book.now).form 0) (content c.args.self.now.case.now.sheet.now) ++ r) (sym (rest_same e.components best.new.strip c.args.strip.now best.ensures.rest)), refl)
 
 pub best_in_form-other-requires : goal.best_in_form-other-requires
 best_in_form-other-requires g c = record {
-  laid = c.args.self.now.case.now.laid;
-  supplied = c.args.self.now.case.now.supplied;
-  full = c.args.self.now.full;
-  placed = c.args.self.now.placed;
   one = omega (arith, c.forms_of-form-end.ensures, c.loop-form-test.true);
-  hand = c.args.self.now.hand;
-  long = omega (arith, c.loop-form.auto.strip, c.best_in_form-best.auto.strip, c.requires.long);
+  long = omega (arith, c.loop-form.auto.strip, c.best_in_form-best.auto.strip, c.requires);
 }
 
 pub loop-form-preserved : goal.loop-form-preserved
@@ -65,7 +39,7 @@ loop-form-preserved g c =
     let best = c.loop-form.best in
     let other = c.best_in_form-other in
     let o = other.result in
-    let set = set_of g c.args.self.now.case.now.sheet.now c.args.self.now.case.now.book.now c.args.self.now.case.now.effects.now c.args.self.now.case.now.supplied in
+    let set = setting met.closed met.laws c.args.self.now.case.now.sheet.now _ c.args.self.now.case.now.effects.now (g.met.R.Rulebook.laws c.args.self.now.case.now.book.now) c.args.self.now.case.now.supplied in
     let inv = c.loop-form.invariant in
     let begun = c.best_in_form-best.new.strip in
     let strip : map e.components other.new.strip ≡ both_halves e.count xss c.args.self.now.masks.now (b.form (k + 1 - 1)) s ++ drop 24 (map e.components begun) =
@@ -92,7 +66,7 @@ returns g c =
     let xss = map e.components c.args.self.now.case.now.effects.now in
     let inv = c.loop-form.invariant in
     let begun = c.best_in_form-best.new.strip in
-    let some = g.met.R.Rulebook.some c.args.self.now.case.now.book.now in
+    let some = (g.met.R.Rulebook.laws c.args.self.now.case.now.book.now).some in
     let ended : c.loop-form.form ≡ b.forms = omega (arith, c.forms_of-form-end.ensures, c.loop-form-test.false, c.loop-form.auto.form-end (omega (arith, c.forms_of-form-end.ensures, some))) in
     record {
       best = subst (λ i. BestAmong e.count e.reaches s b xss (λ f. f < i) (with_chosen e.count e.reaches s b xss c.loop-form.best.form c.loop-form.best.leader c.loop-form.best.set)) ended inv.0;

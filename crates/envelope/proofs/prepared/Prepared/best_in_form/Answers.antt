@@ -1,67 +1,39 @@
-use Rattle.std.proofs.Common.{◌≡◌, ◌≤◌, List, map, length, drop, refl, ap, ◌∙◌, mul-le-mul_right, arith}
-use lib.ListN.{length-map}
-use Rattle.rulebooks.specs.Books.{Book}
-use Rattle.sheet.specs.declared.plain.Sheet.{Sheet}
+use Rattle.std.proofs.Common.{◌≤◌, map, length, drop, refl, mul-le-mul_right, arith}
 use Rattle.sheet.specs.Content.{content}
 use Rattle.sheet.proofs.Marks.{marks_symmetric}
 use Rattle.sheet.proofs.Laws.{sound_from}
-use Rattle.envelope.specs.Supplied.{Supplied}
-use Rattle.envelope.proofs.Setting.{Setting}
-use Rattle.envelope.proofs.Numbering.{places_length}
-use Rattle.envelope.proofs.Ground.{sound_of, laws_of, grounded}
+use Rattle.envelope.proofs.Ground.{setting}
 use Rattle.envelope.proofs.InForm.{form_searchable, form_place, form_set, form_best}
-use Rattle.envelope.proofs.prepared.Prepared.best_in_form.Given as given
 use Rattle.envelope.proofs.prepared.Prepared.best_in_form.Goals as goal
-
--- the sheet with its effects and the rulebook
-set_of : (g : given.Over) (sheet : Sheet) (book : g.row.R.Denot) (es : List g.row.E.Denot) → Supplied (content sheet) (map g.E.Effect.components es)
-    → Setting g.met.E.Effect.closed g.met.E.Effect.laws (content sheet) (g.R.Rulebook.meaning book) (map g.E.Effect.components es)
-set_of g sheet book es supplied =
-    let b : Book = g.R.Rulebook.meaning book in
-    let law = g.met.R.Rulebook in
-    grounded g.met.E.Effect.closed g.met.E.Effect.laws (content sheet) b es (sound_of _ (content sheet).actions sheet.limited sheet.formed)
-    (laws_of b (law.some book) (law.permanent book) (law.variable book) (law.uppers book) (law.prestresses book) (law.leadings book)) supplied
-
-pub fill_strip-requires : goal.fill_strip-requires
-fill_strip-requires g c = record {
-  long = c.requires.long;
-  listed = c.args.self.now.case.now.laid;
-  masked = ap length c.args.self.now.full ∙ places_length 32 _ 0;
-  complete = sym_length c.args.self.now.case.now.effects.now ∙ c.args.self.now.case.now.supplied.complete;
-  small = c.args.self.now.case.now.supplied.small;
-}
-  where
-    sym_length : (es : List g.row.E.Denot) → length es ≡ length (map g.E.Effect.components es)
-    sym_length es = mathlib.Core.Path.sym (length-map es g.E.Effect.components)
 
 pub best_set-peak-requires : goal.best_set-peak-requires
 best_set-peak-requires g c =
     let met = g.met.E.Effect in
     form_searchable met.closed met.laws (content c.args.self.now.case.now.sheet.now) (g.R.Rulebook.meaning c.args.self.now.case.now.book.now) (map g.E.Effect.components c.args.self.now.case.now.effects.now)
-    (set_of g c.args.self.now.case.now.sheet.now c.args.self.now.case.now.book.now c.args.self.now.case.now.effects.now c.args.self.now.case.now.supplied) c.args.self.now.case.now.sheet.now.limited.2 c.args.form
-    c.fill_strip.new.strip (drop 24 (map g.E.Effect.components c.args.strip.now)) c.args.self.now.masks.now c.args.self.now.roster.now c.has_leader-leads.result c.base_of-base.result
-    c.args.self.now.full c.args.self.now.placed c.fill_strip.ensures.halves c.has_leader-leads.ensures c.base_of-base.ensures
+    (setting met.closed met.laws c.args.self.now.case.now.sheet.now _ c.args.self.now.case.now.effects.now (g.met.R.Rulebook.laws c.args.self.now.case.now.book.now) c.args.self.now.case.now.supplied) c.args.self.now.case.now.sheet.now.limited.2 c.args.form
+    c.fill_strip.new.strip (drop 24 (map g.E.Effect.components c.args.strip.now)) c.args.self.now.masks.now c.args.self.now.roster.now c.has_leader-leads.result c.base-base.result
+    c.args.self.now.full c.args.self.now.placed c.fill_strip.ensures.halves c.has_leader-leads.ensures c.base-base.ensures
 
 pub leader_number-requires : goal.leader_number-requires
 leader_number-requires g c =
     let met = g.met.E.Effect in
     form_place met.closed met.laws (content c.args.self.now.case.now.sheet.now) (g.R.Rulebook.meaning c.args.self.now.case.now.book.now) (map g.E.Effect.components c.args.self.now.case.now.effects.now)
-    (set_of g c.args.self.now.case.now.sheet.now c.args.self.now.case.now.book.now c.args.self.now.case.now.effects.now c.args.self.now.case.now.supplied) c.args.self.now.case.now.sheet.now.limited.2 c.args.form
-    c.fill_strip.new.strip (drop 24 (map g.E.Effect.components c.args.strip.now)) c.args.self.now.masks.now c.args.self.now.roster.now c.has_leader-leads.result c.base_of-base.result
-    c.args.self.now.full c.args.self.now.placed c.fill_strip.ensures.halves c.has_leader-leads.ensures c.base_of-base.ensures c.best_set-peak.result.leader c.best_set-peak.ensures.best.may_lead
+    (setting met.closed met.laws c.args.self.now.case.now.sheet.now _ c.args.self.now.case.now.effects.now (g.met.R.Rulebook.laws c.args.self.now.case.now.book.now) c.args.self.now.case.now.supplied) c.args.self.now.case.now.sheet.now.limited.2 c.args.form
+    c.fill_strip.new.strip (drop 24 (map g.E.Effect.components c.args.strip.now)) c.args.self.now.masks.now c.args.self.now.roster.now c.has_leader-leads.result c.base-base.result
+    c.args.self.now.full c.args.self.now.placed c.fill_strip.ensures.halves c.has_leader-leads.ensures c.base-base.ensures c.best_set-peak.result.leader c.best_set-peak.ensures.best.may_lead
 
 pub set_number-requires : goal.set_number-requires
 set_number-requires g c =
     let met = g.met.E.Effect in
     record {
       place = form_place met.closed met.laws (content c.args.self.now.case.now.sheet.now) (g.R.Rulebook.meaning c.args.self.now.case.now.book.now) (map g.E.Effect.components c.args.self.now.case.now.effects.now)
-          (set_of g c.args.self.now.case.now.sheet.now c.args.self.now.case.now.book.now c.args.self.now.case.now.effects.now c.args.self.now.case.now.supplied) c.args.self.now.case.now.sheet.now.limited.2 c.args.form
-          c.fill_strip.new.strip (drop 24 (map g.E.Effect.components c.args.strip.now)) c.args.self.now.masks.now c.args.self.now.roster.now c.has_leader-leads.result c.base_of-base.result
-          c.args.self.now.full c.args.self.now.placed c.fill_strip.ensures.halves c.has_leader-leads.ensures c.base_of-base.ensures c.best_set-peak.result.leader c.best_set-peak.ensures.best.may_lead;
+          (setting met.closed met.laws c.args.self.now.case.now.sheet.now _ c.args.self.now.case.now.effects.now (g.met.R.Rulebook.laws c.args.self.now.case.now.book.now) c.args.self.now.case.now.supplied) c.args.self.now.case.now.sheet.now.limited.2 c.args.form
+          c.fill_strip.new.strip (drop 24 (map g.E.Effect.components c.args.strip.now)) c.args.self.now.masks.now c.args.self.now.roster.now c.has_leader-leads.result c.base-base.result
+          c.args.self.now.full c.args.self.now.placed c.fill_strip.ensures.halves c.has_leader-leads.ensures c.base-base.ensures c.best_set-peak.result.leader c.best_set-peak.ensures.best.may_lead;
       set = form_set met.closed met.laws (content c.args.self.now.case.now.sheet.now) (g.R.Rulebook.meaning c.args.self.now.case.now.book.now) (map g.E.Effect.components c.args.self.now.case.now.effects.now)
-          (set_of g c.args.self.now.case.now.sheet.now c.args.self.now.case.now.book.now c.args.self.now.case.now.effects.now c.args.self.now.case.now.supplied) c.args.self.now.case.now.sheet.now.limited.2 c.args.form
-          c.fill_strip.new.strip (drop 24 (map g.E.Effect.components c.args.strip.now)) c.args.self.now.masks.now c.args.self.now.roster.now c.has_leader-leads.result c.base_of-base.result
-          c.args.self.now.full c.args.self.now.placed c.fill_strip.ensures.halves c.has_leader-leads.ensures c.base_of-base.ensures c.best_set-peak.result.set c.best_set-peak.ensures.best.numbered;
+          (setting met.closed met.laws c.args.self.now.case.now.sheet.now _ c.args.self.now.case.now.effects.now (g.met.R.Rulebook.laws c.args.self.now.case.now.book.now) c.args.self.now.case.now.supplied) c.args.self.now.case.now.sheet.now.limited.2 c.args.form
+          c.fill_strip.new.strip (drop 24 (map g.E.Effect.components c.args.strip.now)) c.args.self.now.masks.now c.args.self.now.roster.now c.has_leader-leads.result c.base-base.result
+          c.args.self.now.full c.args.self.now.placed c.fill_strip.ensures.halves c.has_leader-leads.ensures c.base-base.ensures c.best_set-peak.result.set c.best_set-peak.ensures.best.numbered;
     }
 
 pub returns : goal.returns
@@ -70,9 +42,9 @@ returns g c =
     let sheet = c.args.self.now.case.now.sheet.now in
     let sound = sound_from (content sheet) sheet.limited sheet.formed sheet.paired (marks_symmetric sheet.marks) in
     let h = form_best met.closed met.laws (content sheet) (g.R.Rulebook.meaning c.args.self.now.case.now.book.now) (map g.E.Effect.components c.args.self.now.case.now.effects.now)
-    (set_of g sheet c.args.self.now.case.now.book.now c.args.self.now.case.now.effects.now c.args.self.now.case.now.supplied) sheet.limited.2 c.args.form
-    c.fill_strip.new.strip (drop 24 (map g.E.Effect.components c.args.strip.now)) c.args.self.now.masks.now c.args.self.now.roster.now c.has_leader-leads.result c.base_of-base.result
-    c.args.self.now.full c.args.self.now.placed c.fill_strip.ensures.halves c.has_leader-leads.ensures c.base_of-base.ensures
+    (setting met.closed met.laws sheet _ c.args.self.now.case.now.effects.now (g.met.R.Rulebook.laws c.args.self.now.case.now.book.now) c.args.self.now.case.now.supplied) sheet.limited.2 c.args.form
+    c.fill_strip.new.strip (drop 24 (map g.E.Effect.components c.args.strip.now)) c.args.self.now.masks.now c.args.self.now.roster.now c.has_leader-leads.result c.base-base.result
+    c.args.self.now.full c.args.self.now.placed c.fill_strip.ensures.halves c.has_leader-leads.ensures c.base-base.ensures
     c.args.self.now.hand c.requires.one sound.symmetric sound.irreflexive
     c.best_set-peak.result.leader c.leader_number.result c.best_set-peak.result.set c.set_number.result (g.E.Effect.components c.best_set-peak.result.effect)
     c.best_set-peak.ensures.best c.best_set-peak.ensures.effect c.leader_number.ensures c.set_number.ensures in

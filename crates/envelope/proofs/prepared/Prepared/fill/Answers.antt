@@ -15,15 +15,15 @@ loop-entry-init g c =
     let k = g.E.Effect in
     made_alike k.components (zeros k.count) _ (λ f x f' made. search rules) _ _ c.fill_with.new.self 12 c.fill_with.ensures.ran.1 (omega arith)
 
-pub offset_bounds-masks-entry : goal.offset_bounds-masks-entry
-offset_bounds-masks-entry g c =
+pub offset_bounds-self-entry : goal.offset_bounds-self-entry
+offset_bounds-self-entry g c =
     let s = c.args.self.now.case.now.sheet.now in
     omega (arith, number_at (content s) c.args.self.now.case.now.entries.now c.args.self.now.case.now.laid c.loop-entry.entry-index (omega arith), as_many (content s) c.args.self.now.case.now.entries.now c.args.self.now.case.now.laid, s.limited.1)
 
-pub bounds-masks-entry : goal.bounds-masks-entry
-bounds-masks-entry g c =
+pub bounds-self-entry : goal.bounds-self-entry
+bounds-self-entry g c =
     let s = c.args.self.now.case.now.sheet.now in
-    omega (arith, number_at (content s) c.args.self.now.case.now.entries.now c.args.self.now.case.now.laid c.loop-entry.entry-index (omega arith), as_many (content s) c.args.self.now.case.now.entries.now c.args.self.now.case.now.laid, s.limited.1, c.told-masks)
+    omega (arith, number_at (content s) c.args.self.now.case.now.entries.now c.args.self.now.case.now.laid c.loop-entry.entry-index (omega arith), as_many (content s) c.args.self.now.case.now.entries.now c.args.self.now.case.now.laid, s.limited.1)
 
 pub bounds-half-entry : goal.bounds-half-entry
 bounds-half-entry g c =

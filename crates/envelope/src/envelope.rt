@@ -25,12 +25,7 @@ const STRIP: usize = 24;
 fn first_too_large<E: Effect>(effects: &[E]) -> Option<usize>
     ensures { result ≡ too_large 0 (map E.components effects.now) }
 {
-    for (part, effect) in effects.iter().enumerate() {
-        if effect.size() > LARGEST {
-            return Some(part);
-        }
-    }
-    None
+    effects.iter().position(|effect| effect.size() > LARGEST)
 }
 
 // Whether there is an active action of the kind, where one is asked for.
@@ -40,12 +35,7 @@ fn is_at_hand(sheet: &Sheet, kind: Option<Kind>) -> bool
     let Some(sought) = kind else {
         return true;
     };
-    for action in sheet.actions() {
-        if acts(action, sought) {
-            return true;
-        }
-    }
-    false
+    sheet.actions().iter().any(|action| acts(action, sought))
 }
 
 // The questions in their order; the first one answered no refuses.

@@ -1,19 +1,17 @@
-use Rattle.std.proofs.Common.{refl}
+use Rattle.std.proofs.Common.{◌≡◌, true, false, sym, ap, ◌∙◌, rules}
+use borrow.Author.Tests.{tests}
+use Rattle.std.proofs.lemmas.Iterator.{YieldsList-from_slice, cases_from_any}
 use Rattle.sheet.specs.Content.{content}
-use Rattle.envelope.proofs.Questions.{found_here, not_here, none_here}
+use Rattle.envelope.specs.Entries.{acts}
+use Rattle.envelope.specs.Answers.{event_at_hand}
+use Rattle.envelope.proofs.Questions.{found_acting}
 use Rattle.envelope.proofs.envelope.is_at_hand.Goals as goal
-
-pub loop-action-init : goal.loop-action-init
-loop-action-init c = refl
-
-pub returns-then-acts : goal.returns-then-acts
-returns-then-acts c =
-    found_here c.in-Some.sought c.actions-action-items.result.now c.loop-action.action-index c.loop-action.invariant (content c.args.sheet.now) c.args.kind c.in-Some.is c.actions-action-items.ensures c.loop-action-test.true c.if-acts.ensures
-
-pub loop-action-preserved : goal.loop-action-preserved
-loop-action-preserved c =
-    not_here c.in-Some.sought c.actions-action-items.result.now c.loop-action.action-index c.loop-action.invariant c.loop-action-test.true c.if-acts.ensures
 
 pub returns : goal.returns
 returns c =
-    none_here c.in-Some.sought c.actions-action-items.result.now c.loop-action.action-index c.loop-action.invariant (content c.args.sheet.now) c.args.kind c.in-Some.is c.actions-action-items.ensures c.loop-action-test.false
+    let s = content c.args.sheet.now in
+    let sought = c.in-Some.sought in
+    let list = c.actions.result.now in
+    found_acting sought s list c.any.result c.actions.ensures
+    (cases_from_any _ _ c.any.result (λ a. acts sought a ≡ true) (λ a. acts sought a ≡ false) c.any.ensures.ran (YieldsList-from_slice list cc) (λ x q k. search (rules, tests)) (λ x q k. search (rules, tests)))
+    ∙ ap (λ k. event_at_hand k s) (sym c.in-Some.is)

@@ -98,9 +98,9 @@ module _ {E : Type 0} {components : E → List ℤ} {count : ℕ} {reaches : Lis
       omega (arith, turn_within s list i laid set.short h, ap length full, places_length 32 (map (chosen_mask count reaches s b xss 4095) (entries s)) 0)
 
   -- the share of the action at turn i, as the code has it
-  pub share_read : (ps : List E) (list : List Entry) (i : ℕ) (masks : List ℕ) (r : List ℤ) → list ≡ entries s → i < length list
-      → masks ≡ (with_chosen count reaches s b xss 0 None 4095).masks → map components ps ≡ parts_of xss (get_or list i nowhere)
-      → r ≡ fixed_share count (b.form f) (get_or list i nowhere) (get_or masks (get_or list i nowhere).number 0) (map components ps) → r ≡ adds (get_or list i nowhere)
+  pub share_read : (ps : List (List ℤ)) (list : List Entry) (i : ℕ) (masks : List ℕ) (r : List ℤ) → list ≡ entries s → i < length list
+      → masks ≡ (with_chosen count reaches s b xss 0 None 4095).masks → ps ≡ parts_of xss (get_or list i nowhere)
+      → r ≡ fixed_share count (b.form f) (get_or list i nowhere) (get_or masks (get_or list i nowhere).number 0) ps → r ≡ adds (get_or list i nowhere)
   share_read ps list i masks r laid h full own is =
       let e : Entry = get_or list i nowhere in
       is

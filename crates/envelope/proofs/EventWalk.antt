@@ -3,13 +3,13 @@ use Rattle.std.proofs.Common.{◌≡◌, ℕ, zero, suc, ◌+◌, ◌<◌, ◌�
 use Rattle.std.proofs.lemmas.List.{drop-drop, at_drop_more, at_drop_all}
 use Rattle.std.proofs.lemmas.Bool.{cases_Bool}
 use Rattle.std.specs.List.{slice_get}
+use Rattle.std.specs.Option.{option_map}
 use Rattle.basis.specs.declared.action.Kind.{Kind}
 use Rattle.effects.specs.Supplies.{greatest_from}
 use Rattle.sheet.specs.Content.{Content}
 use Rattle.envelope.specs.declared.masks.Ranked.{Ranked}
 use Rattle.envelope.specs.Entries.{Entry, entries, parts_of, acts, nowhere}
 use Rattle.envelope.specs.Choices.{first_greatest, event_effect, event_of}
-use Rattle.envelope.proofs.Ground.{AtHand}
 
 nth_here : {A : Type 0} (full : List A) (i : ℕ) (x : A) (rest : List A) → drop i full ≡ x ∷ rest → slice_get full i ≡ Some x
 nth_here [] zero x rest e = absurd (omega (arith, ap length e))
@@ -99,24 +99,24 @@ module _ (count : ℕ) (reaches : List ℤ → List ℤ → Bool) (test : Entry 
   none_left list i best r h so = sym (at_drop_all (left_gives best) list i h) ∙ so
 
 -- the walk over the actions of a sheet
-module _ {E : Type 0} (components : E → List ℤ) (count : ℕ) (reaches : List ℤ → List ℤ → Bool) (k : Kind) (es : List E) where
+module _ {E : Type 0} (components : E → List ℤ) (count : ℕ) (reaches : List ℤ → List ℤ → Bool) (k : Kind) (xss : List (List ℤ)) where
   -- what an event adds
   abbrev pub worth_of : Entry → List ℤ
-  worth_of e = event_effect count reaches e.action.spread (parts_of (map components es) e)
+  worth_of e = event_effect count reaches e.action.spread (parts_of xss e)
 
   abbrev pub events_left : Option (Ranked E) → List Entry → Option ℕ
   events_left best list = left_gives count reaches (λ e. acts k e.action) worth_of (shown components best) list
 
   module _ (list : List Entry) (i : ℕ) (h : i < length list) (best next : Option (Ranked E)) (r : Option ℕ) (so : events_left best (drop i list) ≡ r) where
     -- the action at turn i is of the kind, with the effect x of its parts ps, and the best after it is w
-    pub event_taken : (x : E) (ps : List E) (w : Ranked E) → acts k (get_or list i nowhere).action ≡ true → AtHand components es (get_or list i nowhere)
-        → ps ≡ parts_of es (get_or list i nowhere) → components x ≡ event_effect count reaches (get_or list i nowhere).action.spread (map components ps)
+    pub event_taken : (x : E) (ps : List (List ℤ)) (w : Ranked E) → acts k (get_or list i nowhere).action ≡ true
+        → ps ≡ parts_of xss (get_or list i nowhere) → components x ≡ event_effect count reaches (get_or list i nowhere).action.spread ps
         → w ≡ elim best [ None ↦ record { number = (get_or list i nowhere).number; effect = x } | Some b ↦ cond (reaches (components b.effect) (components x)) b (record { number = (get_or list i nowhere).number; effect = x }) ]
         → next ≡ Some w → events_left next (drop (i + 1) list) ≡ r
-    event_taken x ps w t hand own worth is then =
+    event_taken x ps w t own worth is then =
         let e : Entry = get_or list i nowhere in
         let after = left_gives count reaches (λ (d : Entry). acts k d.action) worth_of in
-        let x_is : components x ≡ worth_of e = worth ∙ ap (λ (qs : List E). event_effect count reaches e.action.spread (map components qs)) own ∙ ap (event_effect count reaches e.action.spread) hand.same in
+        let x_is : components x ≡ worth_of e = worth ∙ ap (event_effect count reaches e.action.spread) own in
         ap (λ (o : Option (Ranked E)). events_left o (drop (i + 1) list)) (then ∙ ap Some is)
         ∙ ap (λ (o : Option (ℕ × List ℤ)). after o (drop (i + 1) list)) (shown_better components reaches best (record { number = e.number; effect = x }))
         ∙ ap (λ (ys : List ℤ). after (Some (better reaches (shown components best) (e.number, ys))) (drop (i + 1) list)) x_is
@@ -128,12 +128,16 @@ module _ {E : Type 0} (components : E → List ℤ) (count : ℕ) (reaches : Lis
         ap (λ (o : Option (Ranked E)). events_left o (drop (i + 1) list)) then
         ∙ turn_passed count reaches (λ (d : Entry). acts k d.action) worth_of list i h (shown components best) r so t
 
+  number_found : (best : Option (Ranked E)) → option_map (λ r. r.number) best ≡ events_left best []
+  number_found None = refl
+  number_found (Some r) = refl
+
   -- the best after the last action
-  pub event_found : (s : Content) (kind : Option Kind) (list : List Entry) (i : ℕ) (best o : Option (Ranked E)) → kind ≡ Some k → list ≡ entries s → length list ≤ i
-      → events_left best (drop i list) ≡ events_left None list → best ≡ o → events_left o [] ≡ event_of count reaches kind s (map components es)
-  event_found s kind list i best o is laid h so last =
-      ap (λ (b : Option (Ranked E)). events_left b []) (sym last)
+  pub event_found : (s : Content) (kind : Option Kind) (list : List Entry) (i : ℕ) (best : Option (Ranked E)) → kind ≡ Some k → list ≡ entries s → length list ≤ i
+      → events_left best (drop i list) ≡ events_left None list → option_map (λ r. r.number) best ≡ event_of count reaches kind s xss
+  event_found s kind list i best is laid h so =
+      number_found best
       ∙ none_left count reaches (λ (d : Entry). acts k d.action) worth_of list i (shown components best) (events_left None list) h so
       ∙ ap (events_left None) laid
       ∙ all_give count reaches (λ (d : Entry). acts k d.action) worth_of (entries s)
-      ∙ ap (λ (a : Option Kind). event_of count reaches a s (map components es)) (sym is)
+      ∙ ap (λ (a : Option Kind). event_of count reaches a s xss) (sym is)

@@ -9,13 +9,12 @@ use Rattle.basis.specs.Factors.{most}
 use Rattle.basis.specs.Vocabulary.{is_variable, allows}
 use Rattle.basis.specs.declared.category.Category.{Category}
 use Rattle.effects.specs.Laws.{Closed, Laws}
-use Rattle.effects.specs.Supplies.{Supply}
 use Rattle.rulebooks.specs.Books.{Book}
 use Rattle.sheet.specs.declared.action.Action.{Action}
 use Rattle.sheet.specs.Content.{Content}
 use Rattle.sheet.specs.Limits.{no_action, agree, parts_allowed, Limited, Formed}
 use Rattle.envelope.specs.Entries.{Entry, entries, parts_of, nowhere}
-use Rattle.envelope.specs.Supplied.{Supplied}
+use Rattle.envelope.specs.Supplied.{Supplied, OneAction}
 use Rattle.envelope.proofs.Numbering.{entry_at, entries_length, entry_parts, at_number, at_action, of_number}
 use Rattle.envelope.proofs.Weights.{parts_of_values}
 use Rattle.envelope.proofs.Setting.{Setting}
@@ -57,9 +56,7 @@ grounded kind laws s b es so bl supplied = record {
 pub record AtHand {E : Type 0} (components : E → List ℤ) (es : List E) (e : Entry) : Type 0 where
   pub within : e.first + e.action.parts ≤ length es
   pub counted : length (parts_of es e) ≡ e.action.parts
-  pub some : 1 ≤ length (parts_of es e)
-  pub few : length (parts_of es e) ≤ 16
-  pub supply : Supply (map components (parts_of es e))
+  pub one : OneAction components (parts_of es e)
   pub same : map components (parts_of es e) ≡ parts_of (map components es) e
 
 module _ {E : Type 0} (components : E → List ℤ) (s : Content) (es : List E) (formed : Formed s.actions) (supplied : Supplied s (map components es)) where
@@ -70,11 +67,13 @@ module _ {E : Type 0} (components : E → List ℤ) (s : Content) (es : List E) 
       record {
         within = h;
         counted = l;
-        some = omega arith;
-        few = omega arith;
-        supply = record {
-          few = omega (arith, length-map (parts_of es e) components);
-          small = rw q (All-take _ e.action.parts (drop e.first (map components es)) (All-drop _ e.first (map components es) supplied.small));
+        one = record {
+          some = omega arith;
+          few = omega arith;
+          supply = record {
+            few = omega (arith, length-map (parts_of es e) components);
+            small = rw q (All-take _ e.action.parts (drop e.first (map components es)) (All-drop _ e.first (map components es) supplied.small));
+          };
         };
         same = q;
       }
@@ -104,12 +103,3 @@ pub of_turn : (s : Content) (P : Entry → Type 0) (list : List Entry) (i : ℕ)
 of_turn s P list i laid l each =
     let here : get_or list i nowhere ≡ entry_at s i = ap (λ (d : List Entry). get_or d i nowhere) laid in
     rw here (of_number s P i (omega (arith, ap length laid, entries_length 0 0 0 s.actions)) each)
-
--- an action's parts as the code has them
-pub record Lent {E : Type 0} (components : E → List ℤ) (ps : List E) : Type 0 where
-  pub supply : Supply (map components ps)
-  pub some : 1 ≤ length ps
-  pub few : length ps ≤ 16
-
-pub lent : {E : Type 0} (components : E → List ℤ) (es : List E) (e : Entry) (ps : List E) → AtHand components es e → ps ≡ parts_of es e → Lent components ps
-lent components es e ps hand is = rw is (record { supply = hand.supply; some = hand.some; few = hand.few })

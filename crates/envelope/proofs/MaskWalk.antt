@@ -17,36 +17,33 @@ use Rattle.envelope.specs.Walks.{mask_in_kind, full_mask}
 use Rattle.envelope.proofs.Bits.{has_whole}
 use Rattle.envelope.proofs.LaidOut.{places_more}
 use Rattle.envelope.proofs.Variables.{varies, Placed}
-use Rattle.envelope.proofs.Ground.{AtHand, turn_number, turn_within}
+use Rattle.envelope.proofs.Ground.{turn_number, turn_within}
 
-module _ {E : Type 0} (components : E → List ℤ) (count : ℕ) (reaches : List ℤ → List ℤ → Bool) (s : Content) (b : Book) (es : List E) where
+module _ (count : ℕ) (reaches : List ℤ → List ℤ → Bool) (s : Content) (b : Book) (xss : List (List ℤ)) where
   -- the mask of an action in the set of all places
   abbrev pub mask_there : Entry → ℕ
-  mask_there = chosen_mask count reaches s b (map components es) 4095
+  mask_there = chosen_mask count reaches s b xss 4095
 
-  in_kind : (event : Option ℕ) (e : Entry) (k : Kind) → event ≡ chosen_event count reaches s b (map components es) → length (parts_of (map components es) e) ≡ e.action.parts
-      → (is_variable k ≡ true → has 4095 e.place ≡ true) → mask_in_kind count reaches b.splits event e (parts_of (map components es) e) k ≡ kind_mask count reaches s b (map components es) 4095 e k
+  in_kind : (event : Option ℕ) (e : Entry) (k : Kind) → event ≡ chosen_event count reaches s b xss → length (parts_of xss e) ≡ e.action.parts
+      → (is_variable k ≡ true → has 4095 e.place ≡ true) → mask_in_kind count reaches b.splits event e (parts_of xss e) k ≡ kind_mask count reaches s b xss 4095 e k
   in_kind event e Permanent is size here = refl
   in_kind event e Prestress is size here = ap whole size
-  in_kind event e Variable is size here = sym (ap (λ (u : Bool). cond u (choice count reaches e.action.spread (parts_of (map components es) e)) 0) (here refl))
-  in_kind event e Accidental is size here = ap (λ (o : Option ℕ). cond (named o e.number) (event_choice count reaches e.action.spread (parts_of (map components es) e)) 0) is
-  in_kind event e Seismic is size here = ap (λ (o : Option ℕ). cond (named o e.number) (event_choice count reaches e.action.spread (parts_of (map components es) e)) 0) is
+  in_kind event e Variable is size here = sym (ap (λ (u : Bool). cond u (choice count reaches e.action.spread (parts_of xss e)) 0) (here refl))
+  in_kind event e Accidental is size here = ap (λ (o : Option ℕ). cond (named o e.number) (event_choice count reaches e.action.spread (parts_of xss e)) 0) is
+  in_kind event e Seismic is size here = ap (λ (o : Option ℕ). cond (named o e.number) (event_choice count reaches e.action.spread (parts_of xss e)) 0) is
 
   -- a variable action has one of the places
   pub place_held : (e : Entry) → variables s.actions ≤ 12 → (varies e ≡ true → Placed s e) → varies e ≡ true → has 4095 e.place ≡ true
   place_held e few at v = has_whole 12 e.place (omega (arith, (at v).within))
 
   -- the mask of an action as the code has it
-  pub mask_is : (event : Option ℕ) (e : Entry) (ps : List E) (splits : Bool) (m : ℕ) → event ≡ chosen_event count reaches s b (map components es) → splits ≡ b.splits
-      → variables s.actions ≤ 12 → (varies e ≡ true → Placed s e) → AtHand components es e → ps ≡ parts_of es e
-      → m ≡ full_mask count reaches splits event e (map components ps) → m ≡ mask_there e
-  mask_is event e ps splits m chosen split few at hand own is =
-      let size : length (parts_of (map components es) e) ≡ e.action.parts = ap length (sym hand.same) ∙ length-map (parts_of es e) components ∙ hand.counted in
+  pub mask_is : (event : Option ℕ) (e : Entry) (ps : List (List ℤ)) (splits : Bool) (m : ℕ) → event ≡ chosen_event count reaches s b xss → splits ≡ b.splits
+      → variables s.actions ≤ 12 → (varies e ≡ true → Placed s e) → ps ≡ parts_of xss e → length ps ≡ e.action.parts
+      → m ≡ full_mask count reaches splits event e ps → m ≡ mask_there e
+  mask_is event e ps splits m chosen split few at own size is =
       is
-      ∙ ap (λ (u : Bool). full_mask count reaches u event e (map components ps)) split
-      ∙ ap (λ (qs : List E). full_mask count reaches b.splits event e (map components qs)) own
-      ∙ ap (full_mask count reaches b.splits event e) hand.same
-      ∙ ap (λ m. cond e.action.active m 0) (in_kind event e e.action.kind chosen size (place_held e few at))
+      ∙ (λ j. full_mask count reaches (split j) event e (own j))
+      ∙ ap (λ m. cond e.action.active m 0) (in_kind event e e.action.kind chosen (ap length (sym own) ∙ size) (place_held e few at))
 
   -- the masks of the first i actions
   abbrev pub masks_upto : List Entry → ℕ → List ℕ

@@ -1,19 +1,22 @@
 -- Sums of the parts of one action by a mask.
-use Rattle.std.proofs.Common.{◌≡◌, ℕ, suc, ◌+◌, ◌*◌, ◌<◌, ◌≤◌, Bool, true, false, cond, List, [], ◌∷◌, ◌++◌, map, length, get_or, take, ℤ, sym, ap, ◌∙◌, inl, inr, add-zero, suc-mul, mul-le-mul, zero-add, arith}
-use lib.ListN.{length-map, length-replicate}
-use Rattle.std.proofs.lemmas.List.{map_more, length-take-le, take-map}
-use Rattle.std.proofs.ByRecursion.{All-take}
+use Rattle.std.proofs.Common.{◌≡◌, ℕ, zero, suc, ◌+◌, ◌-◌, ◌*◌, ◌/◌, ◌%◌, ◌^◌, ◌<◌, ◌≤◌, Bool, true, false, cond, not, eqb, List, [], ◌∷◌, ◌++◌, length, get_or, take, ℤ, sym, refl, ap, ◌∙◌, inl, inr, add-zero, suc-mul, zero-add, arith, length-take}
+use lib.ListN.{length-replicate}
+use Rattle.std.proofs.lemmas.List.{take_more, length-take-le}
+use Rattle.std.proofs.lemmas.Nat.{mod_below}
+use Rattle.std.proofs.lemmas.Nat.Bits.{bit_at_not}
+use Rattle.std.specs.Int.{w16}
+use Rattle.std.proofs.ByRecursion.{All-take, All-get_or}
 use Rattle.std.proofs.lemmas.Bool.{cases_Bool}
+use Rattle.std.specs.List.{AllByRecursion as All}
 use Rattle.effects.specs.Components.{zeros, sum, multiple, exact_sum, exact_multiple, size}
 use Rattle.effects.specs.Supplies.{Supply}
-use Rattle.effects.specs.Laws.{Closed, Laws, IsFactor}
-use Rattle.effects.specs.Lists.{sum_exact, exact_split, exact_multiple_size, small_multiple, large_sum, zeros_sum, zeros_multiple}
+use Rattle.effects.specs.Laws.{Small, IsFactor}
+use Rattle.effects.specs.Lists.{sum_exact, exact_sum_size, exact_multiple_size, exact_split, small_multiple, large_multiple, large_sum, zeros_sum, zeros_size, zeros_multiple}
 use Rattle.effects.proofs.Totals.{sum_assoc, sum_zeros}
 use Rattle.envelope.specs.Entries.{has}
 use Rattle.envelope.specs.Combinations.{weighted, by_mask}
-use Rattle.envelope.proofs.Values.{Value, Sm, wider, long, zero_value, sum_value, multiple_value, sum_comm, multiple_sum}
-use Rattle.envelope.proofs.Weights.{Part, Parts, parts_of_values, part_at, nothing}
-use Rattle.envelope.proofs.PartMasks.{part_read}
+use Rattle.envelope.proofs.Values.{sum_comm, multiple_sum}
+use Rattle.envelope.proofs.Weights.{none_of, weighted_same}
 use Rattle.envelope.proofs.Contributions.{once, times_one, times_none}
 
 -- one part more
@@ -60,121 +63,72 @@ weighted_two n hi lo taken (xs ∷ xss) =
     ∙ ap (λ ys. exact_sum ys (exact_sum (exact_multiple lo b) (exact_multiple lo B))) (sym (multiple_sum hi a A))
     ∙ ap (exact_sum (exact_multiple hi (exact_sum a A))) (sym (multiple_sum lo b B))
 
-pub held_once : (taken : ℕ → Bool) (p : ℕ) → cond (taken p) 1 0 ≤ 1
-held_once taken p = elim (cases_Bool (taken p)) [ inl e ↦ rw e (omega arith) | inr e ↦ rw e (omega arith) ]
+-- the parts that are taken, each at 1, sum to no more than all of them
+taken_size : (n : ℕ) (taken : ℕ → Bool) (xss : List (List ℤ)) → All (λ xs. size xs ≤ 1_000_000_000) xss → size (weighted n (λ p. cond (taken p) 1 0) xss) ≤ length xss * 1_000_000_000
+taken_size n taken [] small = omega (arith, zeros_size n)
+taken_size n taken (xs ∷ xss) (low, small) =
+    let head : size (exact_multiple (cond (taken 0) 1 0) xs) ≤ 1_000_000_000 =
+    elim (cases_Bool (taken 0)) [ inl t ↦ rw t (omega (arith, exact_multiple_size 1 xs)) | inr t ↦ rw t (omega (arith, exact_multiple_size 0 xs)) ] in
+    omega (arith, exact_sum_size (exact_multiple (cond (taken 0) 1 0) xs) (weighted n (λ p. cond (taken (suc p)) 1 0) xss), taken_size n (λ p. taken (suc p)) xss small, suc-mul (length xss) 1_000_000_000)
 
-pub left_once : (taken : ℕ → Bool) (p : ℕ) → cond (taken p) 0 1 ≤ 1
-left_once taken p = elim (cases_Bool (taken p)) [ inl e ↦ rw e (omega arith) | inr e ↦ rw e (omega arith) ]
+-- the sum of those that are taken, part by part
+module _ (n : ℕ) (taken : ℕ → Bool) (xss : List (List ℤ)) (supply : Supply xss) where
+  abbrev pub upto : ℕ → List ℤ
+  upto i = weighted n (λ p. cond (taken p) 1 0) (take i xss)
 
-module _ {E : Type 0} {components : E → List ℤ} {count : ℕ} {reaches : List ℤ → List ℤ → Bool} (kind : Closed components count) (laws : Laws components count reaches) where
-  -- what is supplied are effects of parts
-  pub supplied : (es : List E) → Supply (map components es) → Parts kind laws (map components es)
-  supplied es supply = parts_of_values kind laws es supply.small
+  pub upto_small : (i : ℕ) → Small (upto i)
+  upto_small i = let few = supply.few in omega (arith, taken_size n taken (take i xss) (All-take _ i xss supply.small), length-take i xss)
 
-  part_once : {xs : List ℤ} (k : ℕ) → k ≤ 1 → Part kind laws xs → Part kind laws (exact_multiple k xs)
-  part_once {xs} k h v =
-      let b = v.bound in
-      let w = multiple_value kind laws k (omega arith) (omega arith) v in
-      let m : k * size xs ≤ 1 * 1_000_000_000 = mul-le-mul {n₁ = k} {m₁ = size xs} {n₂ = 1} {m₂ = 1_000_000_000} h b in
-      record { value = w.value; is = w.is; bound = omega (arith, exact_multiple_size k xs) }
+  more : (i : ℕ) → i < length xss → upto (i + 1) ≡ exact_sum (upto i) (exact_multiple (cond (taken i) 1 0) (get_or xss i []))
+  more i h =
+      ap (weighted n (λ p. cond (taken p) 1 0)) (take_more xss i [] h)
+      ∙ weighted_push n (λ p. cond (taken p) 1 0) (take i xss) (get_or xss i [])
+      ∙ ap (λ p. exact_sum (upto i) (exact_multiple (cond (taken p) 1 0) (get_or xss i []))) (length-take-le i xss (omega arith))
 
-  -- a sum of parts, each at 1 or at 0
-  pub once_value : (f : ℕ → ℕ) (xss : List (List ℤ)) → ((p : ℕ) → f p ≤ 1) → length xss ≤ 192 → Parts kind laws xss → Value kind laws (length xss * 1_000_000_000) (weighted count f xss)
-  once_value f [] fs few ps = zero_value kind laws 0
-  once_value f (xs ∷ xss) fs few (v, ps) =
-      let m = suc-mul (length xss) 1_000_000_000 in
-      wider kind laws (suc (length xss) * 1_000_000_000) (omega arith) (sum_value kind laws {j = 1_000_000_000} {k = length xss * 1_000_000_000} (omega arith) (part_once (f 0) (fs 0) v) (once_value (λ p. f (suc p)) xss (λ p. fs (suc p)) (omega arith) ps))
+  pub turn_taken : (i : ℕ) → i < length xss → taken i ≡ true → sum (upto i) (get_or xss i []) ≡ upto (i + 1)
+  turn_taken i h t =
+      let x = get_or xss i [] in
+      let low : size x ≤ 1_000_000_000 = All-get_or (λ xs. size xs ≤ 1_000_000_000) xss i [] h supply.small in
+      let small = upto_small i in
+      sum_exact (upto i) x (omega arith)
+      ∙ ap (exact_sum (upto i)) (sym (once x))
+      ∙ ap (λ u. exact_sum (upto i) (exact_multiple (cond u 1 0) x)) (sym t)
+      ∙ sym (more i h)
 
-  pub once_small : (f : ℕ → ℕ) (xss : List (List ℤ)) → ((p : ℕ) → f p ≤ 1) → length xss ≤ 192 → Parts kind laws xss → Sm kind laws (weighted count f xss)
-  once_small f xss fs few ps = wider kind laws 200_000_000_000 (omega arith) (once_value f xss fs few ps)
+  pub turn_left : (i : ℕ) → i < length xss → taken i ≡ false → length (upto i) ≡ n → length (get_or xss i []) ≡ n → upto i ≡ upto (i + 1)
+  turn_left i h t long wide =
+      let x = get_or xss i [] in
+      sym (sum_zeros n (upto i) long)
+      ∙ ap (λ k. exact_sum (upto i) (zeros k)) (sym wide)
+      ∙ ap (exact_sum (upto i)) (sym (none_of x))
+      ∙ ap (λ u. exact_sum (upto i) (exact_multiple (cond u 1 0) x)) (sym t)
+      ∙ sym (more i h)
 
-  -- a loop's turn: x is the part at place i, and t the sum of those before
-  module _ (f : ℕ → ℕ) (fs : (p : ℕ) → f p ≤ 1) (es : List E) (supply : Supply (map components es)) (i : ℕ) (x : E) (h : i < length es) (read : x ≡ get_or es i x) where
-    -- the sum of the parts before
-    before_small : Sm kind laws (weighted count f (map components (take i es)))
-    before_small =
-        let few = supply.few in
-        let l : length (take i es) ≡ i = length-take-le i es (omega arith) in
-        let n : length (map components (take i es)) ≤ 192 = omega (arith, length-map (take i es) components, length-map es components) in
-        once_small f (map components (take i es)) fs n (rw (← take-map components i es) (All-take (Part kind laws) i (map components es) (supplied es supply)))
+-- the parts that a mask of sixteen does not hold
+has_not : (mask p : ℕ) → mask < 65536 → p < 16 → has (65535 - mask) p ≡ not (has mask p)
+has_not mask p h l =
+    let two = mod_below (mask / 2 ^ p) 2 (omega arith) in
+    ap (λ b. eqb b 1) (bit_at_not w16 mask p h l) ∙ flip (mask / 2 ^ p % 2) two
+  where
+    flip : (b : ℕ) → b < 2 → eqb (1 - b) 1 ≡ not (eqb b 1)
+    flip zero l = refl
+    flip (suc zero) l = refl
+    flip (suc (suc b)) l = absurd (omega arith)
 
-    part_here : Part kind laws (components x)
-    part_here =
-        let m : i < length (map components es) = rw (length-map es components) h in
-        rw (← part_read components es i x h read) (part_at kind laws (map components es) i m (supplied es supply))
-
-    more : weighted count f (map components (take (i + 1) es)) ≡ exact_sum (weighted count f (map components (take i es))) (exact_multiple (f i) (components x))
-    more =
-        let l : length (map components (take i es)) ≡ i = length-map (take i es) components ∙ length-take-le i es (omega arith) in
-        ap (weighted count f) (map_more components es i x h)
-        ∙ weighted_push count f (map components (take i es)) (components (get_or es i x))
-        ∙ ap (λ p. exact_sum (weighted count f (map components (take i es))) (exact_multiple (f p) (components (get_or es i x)))) l
-        ∙ ap (λ y. exact_sum (weighted count f (map components (take i es))) (exact_multiple (f i) (components y))) (sym read)
-
-    sum_with : (t s : List ℤ) → t ≡ weighted count f (map components (take i es)) → f i ≡ 1 → s ≡ sum t (components x) → s ≡ weighted count f (map components (take (i + 1) es))
-    sum_with t s so one e =
-        let W = weighted count f (map components (take i es)) in
-        let a = before_small.bound in
-        let b = part_here.bound in
-        let exact : sum W (components x) ≡ exact_sum W (components x) = sum_exact W (components x) (omega arith) in
-        e ∙ ap (λ ys. sum ys (components x)) so ∙ exact
-        ∙ ap (exact_sum W) (sym (once (components x)))
-        ∙ ap (λ k. exact_sum W (exact_multiple k (components x))) (sym one)
-        ∙ sym more
-
-    sum_without : (t s : List ℤ) → t ≡ weighted count f (map components (take i es)) → f i ≡ 0 → s ≡ t → s ≡ weighted count f (map components (take (i + 1) es))
-    sum_without t s so none e =
-        let W = weighted count f (map components (take i es)) in
-        e ∙ so
-        ∙ sym (sum_zeros count W (long kind laws before_small))
-        ∙ ap (exact_sum W) (sym (nothing kind laws part_here))
-        ∙ ap (λ k. exact_sum W (exact_multiple k (components x))) (sym none)
-        ∙ sym more
-
-  -- a part that a mask holds, and one that it does not
-  module _ (mask : ℕ) (es : List E) (supply : Supply (map components es)) (i : ℕ) (x : E) (h : i < length es) (read : x ≡ get_or es i x) (a b s t : List ℤ)
-      (held : a ≡ weighted count (λ p. cond (has mask p) 1 0) (map components (take i es))) (left : b ≡ weighted count (λ p. cond (has mask p) 0 1) (map components (take i es))) where
-    abbrev Next : Type 0
-    Next =
-        (s ≡ weighted count (λ p. cond (has mask p) 1 0) (map components (take (i + 1) es)))
-        × (t ≡ weighted count (λ p. cond (has mask p) 0 1) (map components (take (i + 1) es)))
-
-    pub turn_held : has mask i ≡ true → s ≡ sum a (components x) → t ≡ b → Next
-    turn_held e p q = (
-      sum_with (λ p. cond (has mask p) 1 0) (held_once (has mask)) es supply i x h read a s held (ap (λ u. cond u 1 0) e) p,
-      sum_without (λ p. cond (has mask p) 0 1) (left_once (has mask)) es supply i x h read b t left (ap (λ u. cond u 0 1) e) q,
-    )
-
-    pub turn_left : has mask i ≡ false → s ≡ a → t ≡ sum b (components x) → Next
-    turn_left e p q = (
-      sum_without (λ p. cond (has mask p) 1 0) (held_once (has mask)) es supply i x h read a s held (ap (λ u. cond u 1 0) e) p,
-      sum_with (λ p. cond (has mask p) 0 1) (left_once (has mask)) es supply i x h read b t left (ap (λ u. cond u 0 1) e) q,
-    )
-
-  -- the sums of the parts in a mask and of the others, each times a factor
-  module _ (es : List E) (supply : Supply (map components es)) (mask : ℕ) where
-    held_small : Sm kind laws (weighted count (λ p. cond (has mask p) 1 0) (map components es))
-    held_small = once_small (λ p. cond (has mask p) 1 0) (map components es) (held_once (has mask)) supply.few (supplied es supply)
-
-    left_small : Sm kind laws (weighted count (λ p. cond (has mask p) 0 1) (map components es))
-    left_small = once_small (λ p. cond (has mask p) 0 1) (map components es) (left_once (has mask)) supply.few (supplied es supply)
-
-    pub held_times : (k : ℕ) (h r : List ℤ) → IsFactor k → h ≡ weighted count (λ p. cond (has mask p) 1 0) (map components es) → r ≡ multiple k h
-        → r ≡ exact_multiple k (weighted count (λ p. cond (has mask p) 1 0) (map components es))
-    held_times k h r fits is e = e ∙ ap (multiple k) is ∙ small_multiple k (weighted count (λ p. cond (has mask p) 1 0) (map components es)) fits held_small.bound
-
-    left_times : (k : ℕ) (h r : List ℤ) → IsFactor k → h ≡ weighted count (λ p. cond (has mask p) 0 1) (map components es) → r ≡ multiple k h
-        → r ≡ exact_multiple k (weighted count (λ p. cond (has mask p) 0 1) (map components es))
-    left_times k h r fits is e = e ∙ ap (multiple k) is ∙ small_multiple k (weighted count (λ p. cond (has mask p) 0 1) (map components es)) fits left_small.bound
-
-    pub weighed : (hi lo : ℕ) (h l a b r : List ℤ) → IsFactor hi → IsFactor lo
-        → h ≡ weighted count (λ p. cond (has mask p) 1 0) (map components es) → l ≡ weighted count (λ p. cond (has mask p) 0 1) (map components es)
-        → a ≡ multiple hi h → b ≡ multiple lo l → r ≡ sum a b → r ≡ weighted count (by_mask hi lo mask) (map components es)
-    weighed hi lo h l a b r fh fl h_is l_is a-is b-is e =
-        let H = weighted count (λ p. cond (has mask p) 1 0) (map components es) in
-        let L = weighted count (λ p. cond (has mask p) 0 1) (map components es) in
-        let vh = multiple_value kind laws hi fh (omega arith) held_small in
-        let vl = multiple_value kind laws lo fl (omega arith) left_small in
-        e ∙ ap (λ ys. sum ys b) (held_times hi h a fh h_is a-is) ∙ ap (sum (exact_multiple hi H)) (left_times lo l b fl l_is b-is)
-        ∙ large_sum (exact_multiple hi H) (exact_multiple lo L) vh.bound vl.bound
-        ∙ sym (weighted_two count hi lo (has mask) (map components es))
+-- the sums of the parts in a mask and of the others, each times a factor
+pub weighed : (n hi lo mask : ℕ) (xss : List (List ℤ)) (h l a b r : List ℤ) → mask < 65536 → length xss ≤ 16 → IsFactor hi → IsFactor lo
+    → h ≡ weighted n (λ p. cond (has mask p) 1 0) xss → Small h → l ≡ weighted n (λ p. cond (has (65535 - mask) p) 1 0) xss → Small l
+    → a ≡ multiple hi h → b ≡ multiple lo l → r ≡ sum a b → r ≡ weighted n (by_mask hi lo mask) xss
+weighed n hi lo mask xss h l a b r fits few fh fl held hs left ls first second e =
+    let others : weighted n (λ p. cond (has (65535 - mask) p) 1 0) xss ≡ weighted n (λ p. cond (has mask p) 0 1) xss =
+    weighted_same n _ _ xss (λ p k. ap (λ u. cond u 1 0) (has_not mask p fits (omega arith)) ∙ turned (has mask p)) in
+    e
+    ∙ (λ j. sum (first j) (second j))
+    ∙ large_sum (multiple hi h) (multiple lo l) (large_multiple hi h fh hs) (large_multiple lo l fl ls)
+    ∙ (λ j. exact_sum (small_multiple hi h fh hs j) (small_multiple lo l fl ls j))
+    ∙ (λ j. exact_sum (exact_multiple hi (held j)) (exact_multiple lo ((left ∙ others) j)))
+    ∙ sym (weighted_two n hi lo (has mask) xss)
+  where
+    turned : (u : Bool) → ◌≡◌ {A = ℕ} (cond (not u) 1 0) (cond u 0 1)
+    turned true = refl
+    turned false = refl

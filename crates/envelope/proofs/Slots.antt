@@ -1,17 +1,20 @@
 -- The walks over the entries of a sheet, as the code has them: over the slots that hold them.
-use Rattle.std.proofs.Common.{◌≡◌, ℕ, ◌+◌, ◌-◌, ◌*◌, ◌%◌, ◌^◌, ◌<◌, ◌≤◌, Bool, true, false, cond, List, [], map, length, get_or, take, drop, set, sum_by, filter, ℤ, Some, None, Option, sym, ◌∙◌, subst, arith}
+use Rattle.std.proofs.Common.{◌≡◌, ℕ, ◌+◌, ◌-◌, ◌*◌, ◌%◌, ◌^◌, ◌<◌, ◌≤◌, Bool, true, false, cond, List, map, length, get_or, take, drop, set, sum_by, filter, ℤ, Some, None, Option, sym, ◌∙◌, subst, arith}
 use lib.ListN.{length-map}
 use Rattle.std.proofs.Math.ListN.{get_or-map}
 use Rattle.std.proofs.lemmas.List.{take-map, map-set}
-use Rattle.std.specs.List.{AllByRecursion as All}
+use Rattle.std.specs.List.{AllByRecursion as All, Contains}
+use Rattle.std.specs.Option.{option_map}
+use Rattle.std.proofs.lemmas.List.Elements.{All-contains, All-from_get_or}
 use Rattle.basis.specs.declared.action.Kind.{Kind}
-use Rattle.effects.specs.Components.{zeros, size, sum}
+use Rattle.effects.specs.Components.{zeros, sum}
 use Rattle.effects.specs.Laws.{Closed, Laws}
-use Rattle.effects.specs.Supplies.{Supply, exact_total}
+use Rattle.effects.specs.Supplies.{exact_total}
 use Rattle.rulebooks.specs.Books.{Book}
 use Rattle.sheet.specs.declared.action.Action.{Action}
-use Rattle.sheet.specs.Content.{Content}
-use Rattle.sheet.specs.Limits.{no_action, variables, parts_in, Formed}
+use Rattle.sheet.specs.declared.plain.Sheet.{Sheet}
+use Rattle.sheet.specs.Content.{Content, content}
+use Rattle.sheet.specs.Limits.{no_action, variables, Formed}
 use Rattle.envelope.specs.declared.entry.Slot.{Slot}
 use Rattle.envelope.specs.declared.masks.Ranked.{Ranked}
 use Rattle.envelope.specs.Entries.{Entry, entries, nowhere, parts_of, acts}
@@ -107,9 +110,16 @@ module _ {B : Type 0} (f : Entry → B) (z : B) (s : Content) (xs : List Slot) (
   pub numbered_all : length xs ≤ i → NumberedSo f z (held xs) i out → out ≡ places 32 (map f (entries s)) z
   numbered_all l = walk.numbered_all f z s (held xs) is i out (past xs i l)
 
-pub at_turn : {E : Type 0} (components : E → List ℤ) (s : Content) (es : List E) (formed : Formed s.actions) (supplied : Supplied s (map components es)) (xs : List Slot) (i : ℕ) → held xs ≡ entries s
+at_turn : {E : Type 0} (components : E → List ℤ) (s : Content) (es : List E) (formed : Formed s.actions) (supplied : Supplied s (map components es)) (xs : List Slot) (i : ℕ) → held xs ≡ entries s
     → i < length xs → AtHand components es (at xs i)
 at_turn components s es formed supplied xs i is l = in_slot (AtHand components es) xs i (ground.at_turn components s es formed supplied (held xs) i is (inside xs i l))
+
+-- an action's parts among the effects
+pub at_hand : {E : Type 0} (components : E → List ℤ) (sheet : Sheet) (xs : List Slot) (es : List E) (x : Slot) → held xs ≡ entries (content sheet) → Supplied (content sheet) (map components es)
+    → Contains xs x → AtHand components es (entry_of x)
+at_hand components sheet xs es x is supplied member =
+    let P : Slot → Type 0 = λ y. AtHand components es (entry_of y) in
+    All-contains P xs x (All-from_get_or P xs no_slot (λ i l. at_turn components (content sheet) es sheet.formed supplied xs i is l)) member
 
 -- the entries in the slots that the code reads
 pub laid_here : (s : Content) (xs : List Slot) (list : List Action) → list ≡ s.actions → length s.actions ≤ 32 → held xs ≡ places 32 (entries s) nowhere → held (take (length list - 0) xs) ≡ entries s
@@ -124,11 +134,11 @@ module _ {E : Type 0} {components : E → List ℤ} {count : ℕ} {reaches : Lis
   pub mask_within : (masks : List ℕ) → held xs ≡ entries s → i < length xs → masks ≡ (with_chosen count reaches s b xss 0 None 4095).masks → (get_or xs i no_slot).number < length masks
   mask_within masks is l full = in_slot (λ e. e.number < length masks) xs i (base.mask_within kind laws s b xss set f (held xs) i masks is (inside xs i l) full)
 
-  pub share_read : (ps : List E) (masks : List ℕ) (r : List ℤ) → held xs ≡ entries s → i < length xs
-      → masks ≡ (with_chosen count reaches s b xss 0 None 4095).masks → map components ps ≡ parts_of xss (at xs i)
-      → r ≡ fixed_share count (b.form f) (at xs i) (get_or masks (get_or xs i no_slot).number 0) (map components ps) → r ≡ adds (at xs i)
+  pub share_read : (ps : List (List ℤ)) (masks : List ℕ) (r : List ℤ) → held xs ≡ entries s → i < length xs
+      → masks ≡ (with_chosen count reaches s b xss 0 None 4095).masks → ps ≡ parts_of xss (at xs i)
+      → r ≡ fixed_share count (b.form f) (at xs i) (get_or masks (get_or xs i no_slot).number 0) ps → r ≡ adds (at xs i)
   share_read ps masks r is l full =
-      in_slot (λ e. map components ps ≡ parts_of xss e → r ≡ fixed_share count (b.form f) e (get_or masks e.number 0) (map components ps) → r ≡ adds e) xs i
+      in_slot (λ e. ps ≡ parts_of xss e → r ≡ fixed_share count (b.form f) e (get_or masks e.number 0) ps → r ≡ adds e) xs i
       (base.share_read kind laws s b xss set f ps (held xs) i masks r is (inside xs i l) full)
 
   pub share_added : (total more next : List ℤ) → held xs ≡ entries s → i < length xs → total ≡ exact_total count (map adds (take i (held xs)))
@@ -141,48 +151,38 @@ module _ {E : Type 0} {components : E → List ℤ} {count : ℕ} {reaches : Lis
   base_done total is l = base.base_done kind laws s b xss set f (held xs) i total is (past xs i l)
 
 -- ---- the masks
-module _ {E : Type 0} (components : E → List ℤ) (count : ℕ) (reaches : List ℤ → List ℤ → Bool) (s : Content) (b : Book) (es : List E) (xs : List Slot) (i : ℕ) (masks : List ℕ) where
-  pub mask_written : (m : ℕ) → held xs ≡ entries s → length s.actions ≤ 32 → i < length xs → masks ≡ masks_upto components count reaches s b es (held xs) i → m ≡ mask_there components count reaches s b es (at xs i)
-      → set masks (get_or xs i no_slot).number m ≡ masks_upto components count reaches s b es (held xs) (i + 1)
+module _ (count : ℕ) (reaches : List ℤ → List ℤ → Bool) (s : Content) (b : Book) (xss : List (List ℤ)) (xs : List Slot) (i : ℕ) (masks : List ℕ) where
+  pub mask_written : (m : ℕ) → held xs ≡ entries s → length s.actions ≤ 32 → i < length xs → masks ≡ masks_upto count reaches s b xss (held xs) i → m ≡ mask_there count reaches s b xss (at xs i)
+      → set masks (get_or xs i no_slot).number m ≡ masks_upto count reaches s b xss (held xs) (i + 1)
   mask_written m is short l so =
-      in_slot (λ e. m ≡ mask_there components count reaches s b es e → set masks e.number m ≡ masks_upto components count reaches s b es (held xs) (i + 1)) xs i
-      (mask.mask_written components count reaches s b es (held xs) i masks m is short (inside xs i l) so)
+      in_slot (λ e. m ≡ mask_there count reaches s b xss e → set masks e.number m ≡ masks_upto count reaches s b xss (held xs) (i + 1)) xs i
+      (mask.mask_written count reaches s b xss (held xs) i masks m is short (inside xs i l) so)
 
-  pub masks_done : held xs ≡ entries s → length xs ≤ i → masks ≡ masks_upto components count reaches s b es (held xs) i → masks ≡ places 32 (map (mask_there components count reaches s b es) (entries s)) 0
-  masks_done is l = mask.masks_done components count reaches s b es (held xs) i masks is (past xs i l)
+  pub masks_done : held xs ≡ entries s → length xs ≤ i → masks ≡ masks_upto count reaches s b xss (held xs) i → masks ≡ places 32 (map (mask_there count reaches s b xss) (entries s)) 0
+  masks_done is l = mask.masks_done count reaches s b xss (held xs) i masks is (past xs i l)
 
 -- ---- the event
-module _ {E : Type 0} (components : E → List ℤ) (count : ℕ) (reaches : List ℤ → List ℤ → Bool) (k : Kind) (es : List E) where
+module _ {E : Type 0} (components : E → List ℤ) (count : ℕ) (reaches : List ℤ → List ℤ → Bool) (k : Kind) (xss : List (List ℤ)) where
   abbrev left : Option (Ranked E) → List Entry → Option ℕ
-  left = events_left components count reaches k es
+  left = events_left components count reaches k xss
 
   module _ (xs : List Slot) (i : ℕ) (h : i < length xs) (best next : Option (Ranked E)) (r : Option ℕ) (so : left best (drop i (held xs)) ≡ r) where
-    pub event_taken : (x : E) (ps : List E) (w : Ranked E) → acts k (get_or xs i no_slot).action ≡ true → AtHand components es (at xs i)
-        → ps ≡ parts_of es (at xs i) → components x ≡ event_effect count reaches (get_or xs i no_slot).action.spread (map components ps)
+    pub event_taken : (x : E) (ps : List (List ℤ)) (w : Ranked E) → acts k (get_or xs i no_slot).action ≡ true
+        → ps ≡ parts_of xss (at xs i) → components x ≡ event_effect count reaches (get_or xs i no_slot).action.spread ps
         → w ≡ elim best [ None ↦ record { number = (get_or xs i no_slot).number; effect = x } | Some b ↦ cond (reaches (components b.effect) (components x)) b (record { number = (get_or xs i no_slot).number; effect = x }) ]
         → next ≡ Some w → left next (drop (i + 1) (held xs)) ≡ r
     event_taken x ps w =
-        in_slot (λ e. acts k e.action ≡ true → AtHand components es e
-        → ps ≡ parts_of es e → components x ≡ event_effect count reaches e.action.spread (map components ps)
+        in_slot (λ e. acts k e.action ≡ true
+        → ps ≡ parts_of xss e → components x ≡ event_effect count reaches e.action.spread ps
         → w ≡ elim best [ None ↦ record { number = e.number; effect = x } | Some b ↦ cond (reaches (components b.effect) (components x)) b (record { number = e.number; effect = x }) ]
         → next ≡ Some w → left next (drop (i + 1) (held xs)) ≡ r) xs i
-        (event.event_taken components count reaches k es (held xs) i (inside xs i h) best next r so x ps w)
+        (event.event_taken components count reaches k xss (held xs) i (inside xs i h) best next r so x ps w)
 
     pub event_passed : acts k (get_or xs i no_slot).action ≡ false → next ≡ best → left next (drop (i + 1) (held xs)) ≡ r
     event_passed = in_slot (λ e. acts k e.action ≡ false → next ≡ best → left next (drop (i + 1) (held xs)) ≡ r) xs i
-        (event.event_passed components count reaches k es (held xs) i (inside xs i h) best next r so)
+        (event.event_passed components count reaches k xss (held xs) i (inside xs i h) best next r so)
 
 -- ---- a half of the strip
-module _ {E : Type 0} (components : E → List ℤ) (s : Content) (xs : List Slot) (is : held xs ≡ entries s) (es : List E) (complete : length es ≡ parts_in s.actions) (i : ℕ) (l : i < length xs) where
-  pub parts_within : (get_or xs i no_slot).first + (get_or xs i no_slot).action.parts ≤ length es
-  parts_within = in_slot (λ e. e.first + e.action.parts ≤ length es) xs i (filling.parts_within components s (held xs) is es complete i (inside xs i l))
-
-  pub parts_few : Formed s.actions → (parts : List E) → parts ≡ parts_of es (at xs i) → length parts ≤ 16
-  parts_few formed parts = in_slot (λ e. parts ≡ parts_of es e → length parts ≤ 16) xs i (filling.parts_few components s (held xs) is es complete i (inside xs i l) formed parts)
-
-  pub parts_supply : Formed s.actions → All (λ ys. size ys ≤ 1_000_000_000) (map components es) → (parts : List E) → parts ≡ parts_of es (at xs i) → Supply (map components parts)
-  parts_supply formed small parts = in_slot (λ e. parts ≡ parts_of es e → Supply (map components parts)) xs i (filling.parts_supply components s (held xs) is es complete i (inside xs i l) formed small parts)
-
 pub filled_yes : {E : Type 0} (components : E → List ℤ) (n : ℕ) (f : Entry → List ℤ) (s : Content) (xs : List Slot) (is : held xs ≡ entries s) (i : ℕ) (half : List E) (r : E)
     → variables s.actions ≤ 12 → i < length xs → varies (at xs i) ≡ true → components r ≡ f (at xs i)
     → Placed f (zeros n) (held xs) i (map components half) → Placed f (zeros n) (held xs) (i + 1) (map components (set half (get_or xs i no_slot).place r))
@@ -208,9 +208,9 @@ module _ (masks : List ℕ) (s : Content) (xs : List Slot) (is : held xs ≡ ent
 pub choose_all : (masks : List ℕ) (s : Content) (xs : List Slot) (i chosen : ℕ) → held xs ≡ entries s → length xs ≤ i → chosen ≡ sum_by (worth masks) (take i (held xs)) → chosen ≡ choice_set masks s
 choose_all masks s xs i chosen is l = choosable.choose_all masks s (held xs) i chosen is (past xs i l)
 
-pub event_found : {E : Type 0} (components : E → List ℤ) (count : ℕ) (reaches : List ℤ → List ℤ → Bool) (k : Kind) (es : List E) (s : Content) (kind : Option Kind) (xs : List Slot) (i : ℕ) (best o : Option (Ranked E)) → kind ≡ Some k → held xs ≡ entries s → length xs ≤ i
-    → events_left components count reaches k es best (drop i (held xs)) ≡ events_left components count reaches k es None (held xs) → best ≡ o → events_left components count reaches k es o [] ≡ event_of count reaches kind s (map components es)
-event_found components count reaches k es s kind xs i best o is laid h = event.event_found components count reaches k es s kind (held xs) i best o is laid (past xs i h)
+pub event_found : {E : Type 0} (components : E → List ℤ) (count : ℕ) (reaches : List ℤ → List ℤ → Bool) (k : Kind) (xss : List (List ℤ)) (s : Content) (kind : Option Kind) (xs : List Slot) (i : ℕ) (best : Option (Ranked E)) → kind ≡ Some k → held xs ≡ entries s → length xs ≤ i
+    → events_left components count reaches k xss best (drop i (held xs)) ≡ events_left components count reaches k xss None (held xs) → option_map (λ r. r.number) best ≡ event_of count reaches kind s xss
+event_found components count reaches k xss s kind xs i best is laid h = event.event_found components count reaches k xss s kind (held xs) i best is laid (past xs i h)
 
 -- a slot is written
 pub laid_in_slots : (list items : List Action) (i place then_place first : ℕ) (xs : List Slot)

@@ -12,7 +12,7 @@ use Rattle.envelope.specs.Combinations.{weighted}
 use Rattle.envelope.specs.Choices.{above_zero}
 use Rattle.envelope.proofs.Values.{Value, Reaches, Lg, Sm, of_value, wider, long, zero_value, sum_value, multiple_value, total, level, sums, raised, lowered, multiple_sum}
 
-none_of : (xs : List ℤ) → exact_multiple 0 xs ≡ zeros (length xs)
+pub none_of : (xs : List ℤ) → exact_multiple 0 xs ≡ zeros (length xs)
 none_of [] = refl
 none_of (x ∷ xs) = let e = zero-*ℤ x in let t = none_of xs in cc
 

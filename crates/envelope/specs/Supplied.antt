@@ -1,8 +1,9 @@
 -- What is supplied for the parts of a sheet; only private functions rest on it.
-use Rattle.std.specs.Prelude.{◌≡◌, ℕ, ◌≤◌, true, List, length, ℤ, None}
+use Rattle.std.specs.Prelude.{◌≡◌, ℕ, ◌≤◌, true, List, length, ℤ, map, None}
 use Rattle.std.specs.List.{AllByRecursion}
 use Rattle.basis.specs.Vocabulary.{event_kind}
 use Rattle.effects.specs.Components.{size}
+use Rattle.effects.specs.Supplies.{Supply}
 use Rattle.rulebooks.specs.Books.{Book}
 use Rattle.sheet.specs.Content.{Content}
 use Rattle.sheet.specs.Limits.{parts_in}
@@ -12,6 +13,12 @@ use Rattle.envelope.specs.Answers.{too_large, event_at_hand}
 pub record Supplied (s : Content) (xss : List (List ℤ)) : Type 0 where
   pub complete : length xss ≡ parts_in s.actions
   pub small : AllByRecursion (λ xs. size xs ≤ 1_000_000_000) xss
+
+-- the parts of one action: at least one, at most 16, and each as small
+pub record OneAction {E : Type 0} (components : E → List ℤ) (parts : List E) : Type 0 where
+  pub some : 1 ≤ length parts
+  pub few : length parts ≤ 16
+  pub supply : Supply (map components parts)
 
 -- every question of an envelope is answered yes, `room` being the length of the strip
 pub record Accepted (s : Content) (b : Book) (xss : List (List ℤ)) (room : ℕ) : Type 0 where

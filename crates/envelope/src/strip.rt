@@ -1,16 +1,16 @@
 // The strip: what each variable action gives as the leader, and then what it gives beside one.
-ghost use Rattle.std.specs.Prelude.{◌≡◌, ◌≤◌, ◌++◌, map, length, drop, replicate};
+ghost use Rattle.std.specs.Prelude.{◌≡◌, ◌≤◌, ◌++◌, map, length, drop};
 ghost use Rattle.std.specs.List.{AllByRecursion};
-ghost use Rattle.effects.specs.Components.{zeros, size};
+ghost use Rattle.effects.specs.Components.{size};
 ghost use Rattle.sheet.specs.Content.{content};
 ghost use Rattle.sheet.specs.Limits.{parts_in};
 ghost use Rattle.envelope.specs.Entries.{entries as entries_of};
 ghost use Rattle.envelope.specs.Layout.{role_factor, role_half, both_halves};
+ghost use Rattle.envelope.specs.Supplied.{Supplied};
 ghost use Rattle.envelope.specs.Slots.{entry_of};
 
-use crate::choice::contribution_of;
+use crate::choice::Parts;
 use crate::entry::Slot;
-use crate::layout::parts_of;
 use basis::category::Category;
 use basis::factor::Factor;
 use effects::effect::Effect;
@@ -38,15 +38,6 @@ fn factor_of<R: Rulebook>(book: &R, form: u8, role: Role, category: Option<Categ
     }
 }
 
-// Writes zero to every place of a half.
-fn clear_half<E: Effect>(half: &mut [E])
-    ensures { map E.components half.new ≡ replicate (length half.old) (zeros E.count) }
-{
-    for effect in half.iter_mut() {
-        *effect = E::zero();
-    }
-}
-
 // Fills a half of the strip: at each variable action's place its contribution at the factor of its role, zero elsewhere.
 pub(crate) fn fill<R: Rulebook, E: Effect>(
     half: &mut [E],
@@ -61,17 +52,15 @@ pub(crate) fn fill<R: Rulebook, E: Effect>(
     requires long { length half.old ≡ 12 }
     requires listed { map entry_of entries.now ≡ entries_of (content sheet.now) }
     requires masked { length masks.now ≡ 32 }
-    requires complete { length effects.now ≡ parts_in (content sheet.now).actions }
-    requires small { AllByRecursion (λ xs. size xs ≤ 1_000_000_000) (map E.components effects.now) }
+    requires supplied { Supplied (content sheet.now) (map E.components effects.now) }
     ensures { map E.components half.new ≡ role_half E.count (map E.components effects.now) masks.now ((R.meaning book.now).form form) role (content sheet.now) }
 {
-    let _ = sheet;
-    clear_half(half);
+    half.fill_with(|| E::zero());
     for entry in entries {
         if entry.action.kind.is_variable() {
-            let parts = parts_of(effects, entry);
+            let parts = Parts::of(sheet, entries, effects, entry);
             let factor = factor_of(book, form, role, entry.action.category);
-            half[entry.place] = contribution_of(parts, masks[entry.number], factor);
+            half[entry.place] = parts.contribution(masks[entry.number], factor);
         }
     }
 }

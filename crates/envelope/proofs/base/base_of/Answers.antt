@@ -1,12 +1,12 @@
-use Rattle.std.proofs.Common.{◌<◌, List, map, get_or, ap, ◌∙◌, rules}
+use Rattle.std.proofs.Common.{◌<◌, List, map, get_or, rules}
 use Rattle.rulebooks.specs.Books.{Book}
 use Rattle.sheet.specs.declared.plain.Sheet.{Sheet}
 use Rattle.sheet.specs.Content.{content}
 use Rattle.envelope.specs.Supplied.{Supplied}
 use Rattle.envelope.proofs.Setting.{Setting}
-use Rattle.envelope.proofs.Ground.{sound_of, laws_of, grounded, lent}
+use Rattle.envelope.proofs.Ground.{sound_of, laws_of, grounded}
 use Rattle.envelope.proofs.base.base_of.Given as given
-use Rattle.envelope.proofs.Slots.{at_turn, base_done, mask_within, no_slot, number_within, share_added, share_read}
+use Rattle.envelope.proofs.Slots.{base_done, mask_within, no_slot, number_within, share_added, share_read}
 use Rattle.envelope.proofs.base.base_of.Goals as goal
 
 -- the sheet with its effects and the rulebook
@@ -32,18 +32,6 @@ bounds-masks-entry g c =
     let met = g.met.E.Effect in
     mask_within met.closed met.laws _ _ _ (set_of g c.args.sheet.now c.args.book.now c.args.effects.now c.requires.supplied) c.args.form c.args.entries.now c.loop-entry.entry-index c.args.masks.now c.requires.laid c.loop-entry-test.true c.requires.full
 
-pub parts_of-requires : goal.parts_of-requires
-parts_of-requires g c =
-    let e = g.E.Effect in
-    (at_turn e.components (content c.args.sheet.now) c.args.effects.now c.args.sheet.now.formed c.requires.supplied c.args.entries.now c.loop-entry.entry-index c.requires.laid c.loop-entry-test.true).within
-
-pub share_of-share-requires : goal.share_of-share-requires
-share_of-share-requires g c =
-    let e = g.E.Effect in
-    let hand = at_turn e.components (content c.args.sheet.now) c.args.effects.now c.args.sheet.now.formed c.requires.supplied c.args.entries.now c.loop-entry.entry-index c.requires.laid c.loop-entry-test.true in
-    let own = lent e.components c.args.effects.now _ c.parts_of.result.now hand c.parts_of.ensures in
-    record { supply = own.supply; few = own.few }
-
 pub loop-entry-preserved : goal.loop-entry-preserved
 loop-entry-preserved g c =
     let e = g.E.Effect in
@@ -51,9 +39,7 @@ loop-entry-preserved g c =
     let list = c.args.entries.now in
     let i = c.loop-entry.entry-index in
     let set = set_of g c.args.sheet.now c.args.book.now c.args.effects.now c.requires.supplied in
-    let hand = at_turn e.components (content c.args.sheet.now) c.args.effects.now c.args.sheet.now.formed c.requires.supplied list i c.requires.laid c.loop-entry-test.true in
-    let own = ap (map e.components) c.parts_of.ensures ∙ hand.same in
-    let adds = share_read met.closed met.laws _ _ _ set c.args.form list i c.parts_of.result.now c.args.masks.now _ c.requires.laid c.loop-entry-test.true c.requires.full own c.share_of-share.ensures in
+    let adds = share_read met.closed met.laws _ _ _ set c.args.form list i c.of-parts.result c.args.masks.now _ c.requires.laid c.loop-entry-test.true c.requires.full c.of-parts.ensures.own c.share_of-share.ensures in
     share_added met.closed met.laws _ _ _ set c.args.form list i _ _ _ c.requires.laid c.loop-entry-test.true c.loop-entry.invariant adds c.sum-total.ensures
 
 pub returns : goal.returns

@@ -1,17 +1,17 @@
-use Rattle.std.proofs.Common.{ℕ, ◌<◌, ◌≤◌, List, map, length, get_or, ℤ, sym, ap, ◌∙◌, arith, rules}
+use Rattle.std.proofs.Common.{ℕ, ◌<◌, List, map, length, get_or, ℤ, sym, ap, ◌∙◌, arith, rules}
 use Rattle.effects.specs.Components.{zeros}
-use Rattle.effects.specs.Supplies.{Supply}
 use Rattle.sheet.specs.Content.{content}
 use Rattle.envelope.specs.Entries.{Entry}
 use Rattle.envelope.specs.Layout.{role_factor, contribution_by}
-use Rattle.envelope.proofs.Filling.{contributed}
-use Rattle.envelope.proofs.Slots.{as_many, at, filled_yes, no_slot, number_at, parts_few, parts_supply, parts_within, place_below, placed_all, placed_no}
+use Rattle.envelope.proofs.Filling.{contributed, made_alike}
+use Rattle.envelope.proofs.Slots.{as_many, at, filled_yes, no_slot, number_at, place_below, placed_all, placed_no}
 use Rattle.envelope.proofs.strip.fill.Goals as goal
 use Rattle.envelope.proofs.strip.fill.Goals.{then-is_variable, else-is_variable}
 
-pub parts_of-parts-requires : goal.parts_of-parts-requires
-parts_of-parts-requires g c =
-    parts_within g.E.Effect.components (content c.args.sheet.now) c.args.entries.now c.requires.listed c.args.effects.now c.requires.complete c.loop-entry.entry-index (omega arith)
+pub loop-entry-init : goal.loop-entry-init
+loop-entry-init g c =
+    let k = g.E.Effect in
+    made_alike k.components (zeros k.count) _ (λ f x f' made. search rules) _ _ c.fill_with.new.self 12 c.fill_with.ensures.ran.1 (omega arith)
 
 pub offset_bounds-masks-entry : goal.offset_bounds-masks-entry
 offset_bounds-masks-entry g c =
@@ -22,18 +22,6 @@ pub bounds-masks-entry : goal.bounds-masks-entry
 bounds-masks-entry g c =
     let s = c.args.sheet.now in
     omega (arith, number_at (content s) c.args.entries.now c.requires.listed c.loop-entry.entry-index (omega arith), as_many (content s) c.args.entries.now c.requires.listed, s.limited.1, c.requires.masked)
-
-pub contribution_of-requires : goal.contribution_of-requires
-contribution_of-requires g c =
-    let s = c.args.sheet.now in
-    let k = g.E.Effect in
-    let list = c.args.entries.now in
-    let es = c.args.effects.now in
-    let i = c.loop-entry.entry-index in
-    let parts = c.parts_of-parts.result.now in
-    let few : length parts ≤ 16 = parts_few k.components (content s) list c.requires.listed es c.requires.complete i (omega arith) s.formed parts c.parts_of-parts.ensures in
-    let supply : Supply (map k.components parts) = parts_supply k.components (content s) list c.requires.listed es c.requires.complete i (omega arith) s.formed c.requires.small parts c.parts_of-parts.ensures in
-    search rules
 
 pub bounds-half-entry : goal.bounds-half-entry
 bounds-half-entry g c =
@@ -59,10 +47,10 @@ loop-entry-preserved g c =
     let f : Entry → List ℤ = contribution_by k.count (map k.components es) masks factor in
     elim c.if-is_variable.branch [
       | then-is_variable w ↦
-          let r = w.contribution_of.result in
+          let r = w.contribution.result in
           ap (map k.components) w.half-is
           ∙ filled_yes k.components k.count f (content s) list c.requires.listed i half r s.limited.2 (omega arith) (sym c.is_variable.ensures ∙ w.if-is_variable.true)
-          (contributed k.components k.count es masks factor e w.parts_of-parts.result.now w.factor_of-factor.result.units r w.parts_of-parts.ensures w.factor_of-factor.ensures w.contribution_of.ensures)
+          (contributed k.count (map k.components es) masks factor e w.of-parts.result w.factor_of-factor.result.units (k.components r) w.of-parts.ensures.own w.factor_of-factor.ensures w.contribution.ensures)
           c.loop-entry.invariant
       | else-is_variable w ↦
           ap (map k.components) w.half-is

@@ -1,9 +1,0 @@
-use Rattle.std.proofs.Common.{◌≡◌, [], map, get_or}
-use Rattle.envelope.specs.Entries.{mask_of}
-use Rattle.envelope.specs.Choices.{above_zero}
-use Rattle.envelope.proofs.choice.parts_above_zero.Given as goal
-
-abbrev pub invariant-loop-p : goal.invariant-loop-p
-invariant-loop-p g l =
-    let e = g.E.Effect in
-    l.mask ≡ mask_of (λ p. above_zero e.count e.reaches (get_or (map e.components l.parts) p [])) l.p

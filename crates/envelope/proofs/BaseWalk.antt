@@ -107,6 +107,3 @@ module _ {E : Type 0} {components : E → List ℤ} {count : ℕ} {reaches : Lis
       ∙ ap (fixed_share count (b.form f) e (get_or masks e.number 0)) own
       ∙ ap (λ (ms : List ℕ). fixed_share count (b.form f) e (get_or ms e.number 0) (parts_of xss e)) full
       ∙ share_is_base e (of_turn s _ list i laid h (known kind laws s b xss set 4095)) (of_turn s _ list i laid h (known kind laws s b xss set 0))
-
-  pub base_done : (list : List Entry) (i : ℕ) (total : List ℤ) → list ≡ entries s → length list ≤ i → total ≡ exact_total count (map adds (take i list)) → total ≡ exact_total count (map adds (entries s))
-  base_done list i total laid h so = so ∙ ap (λ (d : List Entry). exact_total count (map adds d)) (take_all i list h ∙ laid)

@@ -60,6 +60,3 @@ module _ (count : ℕ) (reaches : List ℤ → List ℤ → Bool) (s : Content) 
       ∙ places_more 32 (map mask_there (take i list)) 0 m (length (map mask_there (take i list))) refl (omega arith)
       ∙ ap (λ v. places 32 (map mask_there (take i list) ++ v ∷ []) 0) is
       ∙ ap (λ (ms : List ℕ). places 32 ms 0) (sym (map_more mask_there list i nowhere h))
-
-  pub masks_done : (list : List Entry) (i : ℕ) (masks : List ℕ) → list ≡ entries s → length list ≤ i → masks ≡ masks_upto list i → masks ≡ places 32 (map mask_there (entries s)) 0
-  masks_done list i masks laid h so = so ∙ ap (λ (d : List Entry). places 32 (map mask_there d) 0) (take_all i list h ∙ laid)

@@ -147,9 +147,6 @@ module _ {E : Type 0} {components : E → List ℤ} {count : ℕ} {reaches : Lis
       in_slot (λ e. more ≡ adds e → next ≡ sum total more → next ≡ exact_total count (map adds (take (i + 1) (held xs)))) xs i
       (base.share_added kind laws s b xss set f (held xs) i total more next is (inside xs i l) so)
 
-  pub base_done : (total : List ℤ) → held xs ≡ entries s → length xs ≤ i → total ≡ exact_total count (map adds (take i (held xs))) → total ≡ exact_total count (map adds (entries s))
-  base_done total is l = base.base_done kind laws s b xss set f (held xs) i total is (past xs i l)
-
 -- ---- the masks
 module _ (count : ℕ) (reaches : List ℤ → List ℤ → Bool) (s : Content) (b : Book) (xss : List (List ℤ)) (xs : List Slot) (i : ℕ) (masks : List ℕ) where
   pub mask_written : (m : ℕ) → held xs ≡ entries s → length s.actions ≤ 32 → i < length xs → masks ≡ masks_upto count reaches s b xss (held xs) i → m ≡ mask_there count reaches s b xss (at xs i)
@@ -157,9 +154,6 @@ module _ (count : ℕ) (reaches : List ℤ → List ℤ → Bool) (s : Content) 
   mask_written m is short l so =
       in_slot (λ e. m ≡ mask_there count reaches s b xss e → set masks e.number m ≡ masks_upto count reaches s b xss (held xs) (i + 1)) xs i
       (mask.mask_written count reaches s b xss (held xs) i masks m is short (inside xs i l) so)
-
-  pub masks_done : held xs ≡ entries s → length xs ≤ i → masks ≡ masks_upto count reaches s b xss (held xs) i → masks ≡ places 32 (map (mask_there count reaches s b xss) (entries s)) 0
-  masks_done is l = mask.masks_done count reaches s b xss (held xs) i masks is (past xs i l)
 
 -- ---- the event
 module _ {E : Type 0} (components : E → List ℤ) (count : ℕ) (reaches : List ℤ → List ℤ → Bool) (k : Kind) (xss : List (List ℤ)) where

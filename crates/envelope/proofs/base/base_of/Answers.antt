@@ -18,9 +18,6 @@ set_of g sheet book es supplied =
     grounded g.met.E.Effect.closed g.met.E.Effect.laws (content sheet) b es (sound_of _ (content sheet).actions sheet.limited sheet.formed)
     (laws_of b (law.some book) (law.permanent book) (law.variable book) (law.uppers book) (law.prestresses book) (law.leadings book)) supplied
 
-pub loop-entry-init : goal.loop-entry-init
-loop-entry-init g c = c.zero-total.ensures
-
 pub offset_bounds-masks-entry : goal.offset_bounds-masks-entry
 offset_bounds-masks-entry g c =
     let h : (get_or c.args.entries.now c.loop-entry.entry-index no_slot).number < 32 =
@@ -41,8 +38,3 @@ loop-entry-preserved g c =
     let set = set_of g c.args.sheet.now c.args.book.now c.args.effects.now c.requires.supplied in
     let adds = share_read met.closed met.laws _ _ _ set c.args.form list i c.of-parts.result c.args.masks.now _ c.requires.laid c.loop-entry-test.true c.requires.full c.of-parts.ensures.own c.share_of-share.ensures in
     share_added met.closed met.laws _ _ _ set c.args.form list i _ _ _ c.requires.laid c.loop-entry-test.true c.loop-entry.invariant adds c.sum-total.ensures
-
-pub returns : goal.returns
-returns g c =
-    let met = g.met.E.Effect in
-    base_done met.closed met.laws _ _ _ (set_of g c.args.sheet.now c.args.book.now c.args.effects.now c.requires.supplied) c.args.form c.args.entries.now c.loop-entry.entry-index _ c.requires.laid c.loop-entry-test.false c.loop-entry.invariant

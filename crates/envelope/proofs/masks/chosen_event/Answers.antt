@@ -6,9 +6,6 @@ use Rattle.envelope.proofs.Slots.{event_found, event_passed, event_taken}
 use Rattle.envelope.proofs.masks.chosen_event.Goals as goal
 use Rattle.envelope.proofs.masks.chosen_event.Goals.{then-acts, else-acts}
 
-pub loop-entry-init : goal.loop-entry-init
-loop-entry-init g c = refl
-
 pub loop-entry-preserved : goal.loop-entry-preserved
 loop-entry-preserved g c =
     let e = g.E.Effect in

@@ -6,9 +6,6 @@ use Rattle.envelope.proofs.MaskWalk.{mask_is}
 use Rattle.envelope.proofs.Slots.{at, mask_written, masks_done, no_slot, number_within, of_turn}
 use Rattle.envelope.proofs.masks.full_masks.Goals as goal
 
-pub loop-entry-init : goal.loop-entry-init
-loop-entry-init g c = refl
-
 pub offset_bounds-masks-entry : goal.offset_bounds-masks-entry
 offset_bounds-masks-entry g c =
     let h : (get_or c.args.entries.now c.loop-entry.entry-index no_slot).number < 32 =
@@ -30,8 +27,3 @@ loop-entry-preserved g c =
     let place = of_turn s list c.requires.laid i c.loop-entry-test.true _ (placed s) in
     let is = mask_is e.count e.reaches s b xss c.args.event (at list i) c.of-parts.result c.splits-splits.result c.mask_of.result c.requires.chosen c.splits-splits.ensures limits.2 place c.of-parts.ensures.own c.of-parts.ensures.all c.mask_of.ensures in
     mask_written e.count e.reaches s b xss list i c.loop-entry.masks c.mask_of.result c.requires.laid limits.1 c.loop-entry-test.true c.loop-entry.invariant is
-
-pub returns : goal.returns
-returns g c =
-    let e = g.E.Effect in
-    masks_done e.count e.reaches (content c.args.sheet.now) (g.R.Rulebook.meaning c.args.book.now) (map e.components c.args.effects.now) c.args.entries.now c.loop-entry.entry-index c.loop-entry.masks c.requires.laid c.loop-entry-test.false c.loop-entry.invariant

@@ -56,9 +56,3 @@ loop-entry-preserved g c =
           ap (map k.components) w.half-is
           ∙ placed_no f (zeros k.count) (content s) list c.requires.listed i (map k.components half) (omega arith) (sym c.is_variable.ensures ∙ w.if-is_variable.false) c.loop-entry.invariant
     ]
-
-pub returns : goal.returns
-returns g c =
-    let k = g.E.Effect in
-    placed_all (contribution_by k.count (map k.components c.args.effects.now) c.args.masks.now (λ e. role_factor ((g.R.Rulebook.meaning c.args.book.now).form c.args.form) c.args.role e.action.category))
-    (zeros k.count) (content c.args.sheet.now) c.args.entries.now c.requires.listed c.loop-entry.entry-index (map k.components c.loop-entry.half) (omega arith) c.loop-entry.invariant

@@ -1,7 +1,7 @@
 -- A walk over the actions that adds what those that are not variable add in a form.
 use Rattle.std.proofs.Common.{◌≡◌, ℕ, ◌+◌, ◌*◌, ◌<◌, ◌≤◌, Bool, true, false, cond, List, [], ◌∷◌, ◌++◌, map, length, get_or, take, ℤ, None, sum_by, sym, ap, ◌∙◌, subst, inl, inr, arith}
 use Rattle.std.proofs.ByRecursion.{All-take, All-weaker}
-use Rattle.std.proofs.lemmas.List.{map_more, take_all}
+use Rattle.std.proofs.lemmas.List.{map_more}
 use Rattle.std.proofs.lemmas.List.Sums.{sum_by-take-le}
 use Rattle.std.proofs.lemmas.Bool.{cases_Bool}
 use Rattle.basis.specs.Vocabulary.{is_variable}
@@ -15,15 +15,14 @@ use Rattle.sheet.specs.Content.{Content}
 use Rattle.envelope.specs.declared.combination.Combination.{Combination}
 use Rattle.envelope.specs.Entries.{Entry, entries, parts_of, has, nowhere}
 use Rattle.envelope.specs.Combinations.{mask, weighted, factor, share}
-use Rattle.envelope.specs.Reported.{chosen_mask, with_chosen, base_share}
+use Rattle.envelope.specs.Reported.{with_chosen, base_share}
 use Rattle.envelope.specs.Walks.{fixed_share}
 use Rattle.envelope.proofs.Values.{zero_value, sum_comm}
 use Rattle.envelope.proofs.Totals.{Share, total_share, entries_sum}
-use Rattle.envelope.proofs.Numbering.{places_length}
 use Rattle.envelope.proofs.Setting.{Setting, Own, owned, share_value, share_active, share_none}
 use Rattle.envelope.proofs.Candidates.{Known, known}
 use Rattle.envelope.proofs.Contributions.{share_base}
-use Rattle.envelope.proofs.Ground.{turn_within, of_turn}
+use Rattle.envelope.proofs.Ground.{of_turn}
 
 -- one effect more
 pub total_push : (n : ℕ) (xss : List (List ℤ)) (x : List ℤ) → exact_total n (xss ++ x ∷ []) ≡ exact_sum (exact_total n xss) x
@@ -91,11 +90,6 @@ module _ {E : Type 0} {components : E → List ℤ} {count : ℕ} {reaches : Lis
       ∙ large_sum T (adds e) large (base_large e own)
       ∙ sym (total_push count (map adds (take i list)) (adds e))
       ∙ ap (exact_total count) (sym (map_more adds list i nowhere h))
-
-  -- the mask of the action at turn i is there to read
-  pub mask_within : (list : List Entry) (i : ℕ) (masks : List ℕ) → list ≡ entries s → i < length list → masks ≡ (with_chosen count reaches s b xss 0 None 4095).masks → (get_or list i nowhere).number < length masks
-  mask_within list i masks laid h full =
-      omega (arith, turn_within s list i laid set.short h, ap length full, places_length 32 (map (chosen_mask count reaches s b xss 4095) (entries s)) 0)
 
   -- the share of the action at turn i, as the code has it
   pub share_read : (ps : List (List ℤ)) (list : List Entry) (i : ℕ) (masks : List ℕ) (r : List ℤ) → list ≡ entries s → i < length list

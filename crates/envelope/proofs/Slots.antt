@@ -7,7 +7,7 @@ use Rattle.std.specs.List.{AllByRecursion as All, Contains}
 use Rattle.std.specs.Option.{option_map}
 use Rattle.std.proofs.lemmas.List.Elements.{All-contains, All-from_get_or}
 use Rattle.basis.specs.declared.action.Kind.{Kind}
-use Rattle.effects.specs.Components.{zeros, sum}
+use Rattle.effects.specs.Components.{sum}
 use Rattle.effects.specs.Laws.{Closed, Laws}
 use Rattle.effects.specs.Supplies.{exact_total}
 use Rattle.rulebooks.specs.Books.{Book}
@@ -34,11 +34,8 @@ use Rattle.envelope.proofs.LaidOut.{Laid}
 use Rattle.envelope.proofs.Walk as walk
 use Rattle.envelope.proofs.Walk.{Placed, NumberedSo}
 use Rattle.envelope.proofs.BaseWalk as base
-use Rattle.envelope.proofs.MaskWalk as mask
-use Rattle.envelope.proofs.MaskWalk.{mask_there, masks_upto}
 use Rattle.envelope.proofs.EventWalk as event
 use Rattle.envelope.proofs.EventWalk.{events_left}
-use Rattle.envelope.proofs.Filling as filling
 use Rattle.envelope.proofs.Choosable as choosable
 use Rattle.envelope.proofs.Recorded as recorded
 use Rattle.envelope.proofs.Choosable.{worth}
@@ -131,9 +128,6 @@ module _ {E : Type 0} {components : E → List ℤ} {count : ℕ} {reaches : Lis
   abbrev adds : Entry → List ℤ
   adds = base_share count reaches s b xss f
 
-  pub mask_within : (masks : List ℕ) → held xs ≡ entries s → i < length xs → masks ≡ (with_chosen count reaches s b xss 0 None 4095).masks → (get_or xs i no_slot).number < length masks
-  mask_within masks is l full = in_slot (λ e. e.number < length masks) xs i (base.mask_within kind laws s b xss set f (held xs) i masks is (inside xs i l) full)
-
   pub share_read : (ps : List (List ℤ)) (masks : List ℕ) (r : List ℤ) → held xs ≡ entries s → i < length xs
       → masks ≡ (with_chosen count reaches s b xss 0 None 4095).masks → ps ≡ parts_of xss (at xs i)
       → r ≡ fixed_share count (b.form f) (at xs i) (get_or masks (get_or xs i no_slot).number 0) ps → r ≡ adds (at xs i)
@@ -146,14 +140,6 @@ module _ {E : Type 0} {components : E → List ℤ} {count : ℕ} {reaches : Lis
   share_added total more next is l so =
       in_slot (λ e. more ≡ adds e → next ≡ sum total more → next ≡ exact_total count (map adds (take (i + 1) (held xs)))) xs i
       (base.share_added kind laws s b xss set f (held xs) i total more next is (inside xs i l) so)
-
--- ---- the masks
-module _ (count : ℕ) (reaches : List ℤ → List ℤ → Bool) (s : Content) (b : Book) (xss : List (List ℤ)) (xs : List Slot) (i : ℕ) (masks : List ℕ) where
-  pub mask_written : (m : ℕ) → held xs ≡ entries s → length s.actions ≤ 32 → i < length xs → masks ≡ masks_upto count reaches s b xss (held xs) i → m ≡ mask_there count reaches s b xss (at xs i)
-      → set masks (get_or xs i no_slot).number m ≡ masks_upto count reaches s b xss (held xs) (i + 1)
-  mask_written m is short l so =
-      in_slot (λ e. m ≡ mask_there count reaches s b xss e → set masks e.number m ≡ masks_upto count reaches s b xss (held xs) (i + 1)) xs i
-      (mask.mask_written count reaches s b xss (held xs) i masks m is short (inside xs i l) so)
 
 -- ---- the event
 module _ {E : Type 0} (components : E → List ℤ) (count : ℕ) (reaches : List ℤ → List ℤ → Bool) (k : Kind) (xss : List (List ℤ)) where
@@ -175,14 +161,6 @@ module _ {E : Type 0} (components : E → List ℤ) (count : ℕ) (reaches : Lis
     pub event_passed : acts k (get_or xs i no_slot).action ≡ false → next ≡ best → left next (drop (i + 1) (held xs)) ≡ r
     event_passed = in_slot (λ e. acts k e.action ≡ false → next ≡ best → left next (drop (i + 1) (held xs)) ≡ r) xs i
         (event.event_passed components count reaches k xss (held xs) i (inside xs i h) best next r so)
-
--- ---- a half of the strip
-pub filled_yes : {E : Type 0} (components : E → List ℤ) (n : ℕ) (f : Entry → List ℤ) (s : Content) (xs : List Slot) (is : held xs ≡ entries s) (i : ℕ) (half : List E) (r : E)
-    → variables s.actions ≤ 12 → i < length xs → varies (at xs i) ≡ true → components r ≡ f (at xs i)
-    → Placed f (zeros n) (held xs) i (map components half) → Placed f (zeros n) (held xs) (i + 1) (map components (set half (get_or xs i no_slot).place r))
-filled_yes components n f s xs is i half r few l =
-    in_slot (λ e. varies e ≡ true → components r ≡ f e → Placed f (zeros n) (held xs) i (map components half) → Placed f (zeros n) (held xs) (i + 1) (map components (set half e.place r))) xs i
-    (filling.filled_yes components n f s (held xs) is i half r few (inside xs i l))
 
 -- ---- the places with a choice
 module _ (masks : List ℕ) (s : Content) (xs : List Slot) (is : held xs ≡ entries s) (few : variables s.actions ≤ 12) (i : ℕ) (l : i < length xs) (chosen : ℕ) (so : chosen ≡ sum_by (worth masks) (take i (held xs))) where

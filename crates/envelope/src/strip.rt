@@ -17,7 +17,8 @@ use effects::effect::Effect;
 use rulebooks::rulebook::Rulebook;
 use sheet::plain::Sheet;
 
-// How a variable action acts beside the others.
+// How a variable action acts beside the others. It is no closure that gives the factor, since of a closure a contract can say only
+// what its calls may give, and of a role it names the factor.
 #[derive(Clone, Copy)]
 pub(crate) enum Role {
     Leading,
@@ -39,7 +40,7 @@ fn factor_of<R: Rulebook>(book: &R, form: u8, role: Role, category: Option<Categ
 }
 
 // Fills a half of the strip: at each variable action's place its contribution at the factor of its role, zero elsewhere.
-pub(crate) fn fill<R: Rulebook, E: Effect>(
+fn fill<R: Rulebook, E: Effect>(
     half: &mut [E],
     sheet: &Sheet,
     entries: &[Slot],

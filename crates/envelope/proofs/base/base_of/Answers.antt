@@ -1,12 +1,13 @@
-use Rattle.std.proofs.Common.{◌<◌, List, map, get_or, rules}
+use Rattle.std.proofs.Common.{◌≡◌, ◌<◌, List, map, length, get_or, ap, ◌∙◌, rules, arith}
 use Rattle.rulebooks.specs.Books.{Book}
 use Rattle.sheet.specs.declared.plain.Sheet.{Sheet}
 use Rattle.sheet.specs.Content.{content}
 use Rattle.envelope.specs.Supplied.{Supplied}
+use Rattle.envelope.proofs.Numbering.{places_length}
 use Rattle.envelope.proofs.Setting.{Setting}
 use Rattle.envelope.proofs.Ground.{sound_of, laws_of, grounded}
 use Rattle.envelope.proofs.base.base_of.Given as given
-use Rattle.envelope.proofs.Slots.{base_done, mask_within, no_slot, number_within, share_added, share_read}
+use Rattle.envelope.proofs.Slots.{no_slot, number_within, share_added, share_read}
 use Rattle.envelope.proofs.base.base_of.Goals as goal
 
 -- the sheet with its effects and the rulebook
@@ -26,8 +27,8 @@ offset_bounds-masks-entry g c =
 
 pub bounds-masks-entry : goal.bounds-masks-entry
 bounds-masks-entry g c =
-    let met = g.met.E.Effect in
-    mask_within met.closed met.laws _ _ _ (set_of g c.args.sheet.now c.args.book.now c.args.effects.now c.requires.supplied) c.args.form c.args.entries.now c.loop-entry.entry-index c.args.masks.now c.requires.laid c.loop-entry-test.true c.requires.full
+    let long : length c.args.masks.now ≡ 32 = ap length c.requires.full ∙ places_length 32 _ 0 in
+    omega (arith, number_within (content c.args.sheet.now) c.args.entries.now c.requires.laid c.loop-entry.entry-index c.loop-entry-test.true c.args.sheet.now.limited.1)
 
 pub loop-entry-preserved : goal.loop-entry-preserved
 loop-entry-preserved g c =

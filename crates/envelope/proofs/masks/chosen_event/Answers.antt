@@ -1,4 +1,4 @@
-use Rattle.std.proofs.Common.{◌≡◌, map, rules, sym, refl, ◌∙◌}
+use Rattle.std.proofs.Common.{◌≡◌, map, rules, sym, ◌∙◌}
 use Rattle.std.specs.Option.{option_map}
 use Rattle.envelope.specs.Choices.{event_of}
 use Rattle.sheet.specs.Content.{content}

@@ -1,9 +1,9 @@
-use Rattle.std.proofs.Common.{◌<◌, map, get_or, refl, rules}
+use Rattle.std.proofs.Common.{◌<◌, map, get_or, rules}
 use Rattle.rulebooks.specs.Books.{Book}
 use Rattle.sheet.specs.Content.{Content, content}
 use Rattle.envelope.proofs.Variables.{placed}
-use Rattle.envelope.proofs.MaskWalk.{mask_is}
-use Rattle.envelope.proofs.Slots.{at, mask_written, masks_done, no_slot, number_within, of_turn}
+use Rattle.envelope.proofs.MaskWalk.{mask_is, mask_there}
+use Rattle.envelope.proofs.Slots.{at, no_slot, number_within, numbered_more, of_turn}
 use Rattle.envelope.proofs.masks.full_masks.Goals as goal
 
 pub offset_bounds-masks-entry : goal.offset_bounds-masks-entry
@@ -24,6 +24,7 @@ loop-entry-preserved g c =
     let list = c.args.entries.now in
     let i = c.loop-entry.entry-index in
     let limits = c.args.sheet.now.limited in
+    let parts = c.of-parts.ensures in
     let place = of_turn s list c.requires.laid i c.loop-entry-test.true _ (placed s) in
-    let is = mask_is e.count e.reaches s b xss c.args.event (at list i) c.of-parts.result c.splits-splits.result c.mask_of.result c.requires.chosen c.splits-splits.ensures limits.2 place c.of-parts.ensures.own c.of-parts.ensures.all c.mask_of.ensures in
-    mask_written e.count e.reaches s b xss list i c.loop-entry.masks c.mask_of.result c.requires.laid limits.1 c.loop-entry-test.true c.loop-entry.invariant is
+    let is = mask_is e.count e.reaches s b xss c.args.event (at list i) c.of-parts.result c.splits-splits.result c.mask_of.result c.requires.chosen c.splits-splits.ensures limits.2 place parts.own parts.all c.mask_of.ensures in
+    numbered_more (mask_there e.count e.reaches s b xss) 0 s list c.requires.laid i c.loop-entry.masks limits.1 c.loop-entry-test.true c.mask_of.result is c.loop-entry.invariant

@@ -1,10 +1,11 @@
 use Rattle.std.proofs.Common.{ℕ, ◌<◌, List, map, length, get_or, ℤ, sym, ap, ◌∙◌, arith, rules}
+use Rattle.std.proofs.lemmas.List.{map-set}
 use Rattle.effects.specs.Components.{zeros}
 use Rattle.sheet.specs.Content.{content}
 use Rattle.envelope.specs.Entries.{Entry}
 use Rattle.envelope.specs.Layout.{role_factor, contribution_by}
 use Rattle.envelope.proofs.Filling.{contributed, made_alike}
-use Rattle.envelope.proofs.Slots.{as_many, at, filled_yes, no_slot, number_at, place_below, placed_all, placed_no}
+use Rattle.envelope.proofs.Slots.{at, no_slot, number_within, place_below, placed_no, placed_yes}
 use Rattle.envelope.proofs.strip.fill.Goals as goal
 use Rattle.envelope.proofs.strip.fill.Goals.{then-is_variable, else-is_variable}
 
@@ -16,12 +17,12 @@ loop-entry-init g c =
 pub offset_bounds-masks-entry : goal.offset_bounds-masks-entry
 offset_bounds-masks-entry g c =
     let s = c.args.sheet.now in
-    omega (arith, number_at (content s) c.args.entries.now c.requires.listed c.loop-entry.entry-index (omega arith), as_many (content s) c.args.entries.now c.requires.listed, s.limited.1)
+    omega (arith, number_within (content s) c.args.entries.now c.requires.listed c.loop-entry.entry-index (omega arith) s.limited.1)
 
 pub bounds-masks-entry : goal.bounds-masks-entry
 bounds-masks-entry g c =
     let s = c.args.sheet.now in
-    omega (arith, number_at (content s) c.args.entries.now c.requires.listed c.loop-entry.entry-index (omega arith), as_many (content s) c.args.entries.now c.requires.listed, s.limited.1, c.requires.masked)
+    omega (arith, number_within (content s) c.args.entries.now c.requires.listed c.loop-entry.entry-index (omega arith) s.limited.1, c.requires.masked)
 
 pub bounds-half-entry : goal.bounds-half-entry
 bounds-half-entry g c =
@@ -49,7 +50,8 @@ loop-entry-preserved g c =
       | then-is_variable w ↦
           let r = w.contribution.result in
           ap (map k.components) w.half-is
-          ∙ filled_yes k.components k.count f (content s) list c.requires.listed i half r s.limited.2 (omega arith) (sym c.is_variable.ensures ∙ w.if-is_variable.true)
+          ∙ map-set k.components half _ r
+          ∙ placed_yes f (zeros k.count) (content s) list c.requires.listed i (map k.components half) s.limited.2 (omega arith) (sym c.is_variable.ensures ∙ w.if-is_variable.true) (k.components r)
           (contributed k.count (map k.components es) masks factor e w.of-parts.result w.factor_of-factor.result.units (k.components r) w.of-parts.ensures.own w.factor_of-factor.ensures w.contribution.ensures)
           c.loop-entry.invariant
       | else-is_variable w ↦

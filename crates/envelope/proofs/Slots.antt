@@ -1,31 +1,20 @@
 -- The walks over the entries of a sheet, as the code has them: over the slots that hold them.
-use Rattle.std.proofs.Common.{◌≡◌, ℕ, ◌+◌, ◌-◌, ◌*◌, ◌%◌, ◌^◌, ◌<◌, ◌≤◌, Bool, true, false, cond, List, map, length, get_or, take, drop, set, sum_by, filter, ℤ, Some, None, Option, sym, ◌∙◌, subst, arith}
+use Rattle.std.proofs.Common.{◌≡◌, ℕ, ◌+◌, ◌-◌, ◌*◌, ◌%◌, ◌^◌, ◌<◌, ◌≤◌, true, false, List, [], map, length, get_or, take, drop, set, sum_by, filter, ℤ, sym, ◌∙◌, subst, arith, ◌∷◌, ◌++◌, ap}
 use lib.ListN.{length-map}
 use Rattle.std.proofs.Math.ListN.{get_or-map}
-use Rattle.std.proofs.lemmas.List.{take-map, map-set}
+use Rattle.std.proofs.lemmas.List.{take-map, map-set, take_more, drop_more, drop_all}
 use Rattle.std.specs.List.{AllByRecursion as All, Contains}
-use Rattle.std.specs.Option.{option_map}
 use Rattle.std.proofs.lemmas.List.Elements.{All-contains, All-from_get_or}
-use Rattle.basis.specs.declared.action.Kind.{Kind}
-use Rattle.effects.specs.Components.{sum}
-use Rattle.effects.specs.Laws.{Closed, Laws}
-use Rattle.effects.specs.Supplies.{exact_total}
-use Rattle.rulebooks.specs.Books.{Book}
 use Rattle.sheet.specs.declared.action.Action.{Action}
 use Rattle.sheet.specs.declared.plain.Sheet.{Sheet}
 use Rattle.sheet.specs.Content.{Content, content}
 use Rattle.sheet.specs.Limits.{no_action, variables, Formed}
 use Rattle.envelope.specs.declared.entry.Slot.{Slot}
-use Rattle.envelope.specs.declared.masks.Ranked.{Ranked}
-use Rattle.envelope.specs.Entries.{Entry, entries, nowhere, parts_of, acts}
+use Rattle.envelope.specs.Entries.{Entry, entries, nowhere}
 use Rattle.envelope.specs.Slots.{entry_of}
 use Rattle.envelope.specs.Places.{places}
-use Rattle.envelope.specs.Choices.{event_effect, event_of}
 use Rattle.envelope.specs.Layout.{has_choice, choice_set}
-use Rattle.envelope.specs.Reported.{with_chosen, base_share}
 use Rattle.envelope.specs.Supplied.{Supplied}
-use Rattle.envelope.specs.Walks.{fixed_share}
-use Rattle.envelope.proofs.Setting.{Setting}
 use Rattle.envelope.proofs.Variables.{varies}
 use Rattle.envelope.proofs.Ground as ground
 use Rattle.envelope.proofs.Ground.{AtHand}
@@ -33,9 +22,6 @@ use Rattle.envelope.proofs.LaidOut as laid
 use Rattle.envelope.proofs.LaidOut.{Laid}
 use Rattle.envelope.proofs.Walk as walk
 use Rattle.envelope.proofs.Walk.{Placed, NumberedSo}
-use Rattle.envelope.proofs.BaseWalk as base
-use Rattle.envelope.proofs.EventWalk as event
-use Rattle.envelope.proofs.EventWalk.{events_left}
 use Rattle.envelope.proofs.Choosable as choosable
 use Rattle.envelope.proofs.Recorded as recorded
 use Rattle.envelope.proofs.Choosable.{worth}
@@ -62,6 +48,16 @@ inside xs i l = omega (arith, held_long xs)
 
 past : (xs : List Slot) (i : ℕ) → length xs ≤ i → length (held xs) ≤ i
 past xs i l = omega (arith, held_long xs)
+
+-- the entries from slot i on, and those up to it
+pub from_slot : (xs : List Slot) (i : ℕ) → i < length xs → drop i (held xs) ≡ at xs i ∷ drop (i + 1) (held xs)
+from_slot xs i l = drop_more (held xs) i nowhere (inside xs i l) ∙ ap (λ e. e ∷ drop (i + 1) (held xs)) (held_at xs i)
+
+pub to_slot : (xs : List Slot) (i : ℕ) → i < length xs → take (i + 1) (held xs) ≡ take i (held xs) ++ at xs i ∷ []
+to_slot xs i l = take_more (held xs) i nowhere (inside xs i l) ∙ ap (λ e. take i (held xs) ++ e ∷ []) (held_at xs i)
+
+pub no_more : (xs : List Slot) (i : ℕ) → length xs ≤ i → drop i (held xs) ≡ []
+no_more xs i l = drop_all i (held xs) (past xs i l)
 
 -- what holds of an entry holds of the slot's
 in_slot : (P : Entry → Type 0) (xs : List Slot) (i : ℕ) → P (get_or (held xs) i nowhere) → P (at xs i)
@@ -122,46 +118,6 @@ at_hand components sheet xs es x is supplied member =
 pub laid_here : (s : Content) (xs : List Slot) (list : List Action) → list ≡ s.actions → length s.actions ≤ 32 → held xs ≡ places 32 (entries s) nowhere → held (take (length list - 0) xs) ≡ entries s
 laid_here s xs list e short is = sym (take-map entry_of (length list - 0) xs) ∙ recorded.laid_here s (held xs) list e short is
 
--- ---- the base of a form
-module _ {E : Type 0} {components : E → List ℤ} {count : ℕ} {reaches : List ℤ → List ℤ → Bool} (kind : Closed components count) (laws : Laws components count reaches)
-    (s : Content) (b : Book) (xss : List (List ℤ)) (set : Setting kind laws s b xss) (f : ℕ) (xs : List Slot) (i : ℕ) where
-  abbrev adds : Entry → List ℤ
-  adds = base_share count reaches s b xss f
-
-  pub share_read : (ps : List (List ℤ)) (masks : List ℕ) (r : List ℤ) → held xs ≡ entries s → i < length xs
-      → masks ≡ (with_chosen count reaches s b xss 0 None 4095).masks → ps ≡ parts_of xss (at xs i)
-      → r ≡ fixed_share count (b.form f) (at xs i) (get_or masks (get_or xs i no_slot).number 0) ps → r ≡ adds (at xs i)
-  share_read ps masks r is l full =
-      in_slot (λ e. ps ≡ parts_of xss e → r ≡ fixed_share count (b.form f) e (get_or masks e.number 0) ps → r ≡ adds e) xs i
-      (base.share_read kind laws s b xss set f ps (held xs) i masks r is (inside xs i l) full)
-
-  pub share_added : (total more next : List ℤ) → held xs ≡ entries s → i < length xs → total ≡ exact_total count (map adds (take i (held xs)))
-      → more ≡ adds (at xs i) → next ≡ sum total more → next ≡ exact_total count (map adds (take (i + 1) (held xs)))
-  share_added total more next is l so =
-      in_slot (λ e. more ≡ adds e → next ≡ sum total more → next ≡ exact_total count (map adds (take (i + 1) (held xs)))) xs i
-      (base.share_added kind laws s b xss set f (held xs) i total more next is (inside xs i l) so)
-
--- ---- the event
-module _ {E : Type 0} (components : E → List ℤ) (count : ℕ) (reaches : List ℤ → List ℤ → Bool) (k : Kind) (xss : List (List ℤ)) where
-  abbrev left : Option (Ranked E) → List Entry → Option ℕ
-  left = events_left components count reaches k xss
-
-  module _ (xs : List Slot) (i : ℕ) (h : i < length xs) (best next : Option (Ranked E)) (r : Option ℕ) (so : left best (drop i (held xs)) ≡ r) where
-    pub event_taken : (x : E) (ps : List (List ℤ)) (w : Ranked E) → acts k (get_or xs i no_slot).action ≡ true
-        → ps ≡ parts_of xss (at xs i) → components x ≡ event_effect count reaches (get_or xs i no_slot).action.spread ps
-        → w ≡ elim best [ None ↦ record { number = (get_or xs i no_slot).number; effect = x } | Some b ↦ cond (reaches (components b.effect) (components x)) b (record { number = (get_or xs i no_slot).number; effect = x }) ]
-        → next ≡ Some w → left next (drop (i + 1) (held xs)) ≡ r
-    event_taken x ps w =
-        in_slot (λ e. acts k e.action ≡ true
-        → ps ≡ parts_of xss e → components x ≡ event_effect count reaches e.action.spread ps
-        → w ≡ elim best [ None ↦ record { number = e.number; effect = x } | Some b ↦ cond (reaches (components b.effect) (components x)) b (record { number = e.number; effect = x }) ]
-        → next ≡ Some w → left next (drop (i + 1) (held xs)) ≡ r) xs i
-        (event.event_taken components count reaches k xss (held xs) i (inside xs i h) best next r so x ps w)
-
-    pub event_passed : acts k (get_or xs i no_slot).action ≡ false → next ≡ best → left next (drop (i + 1) (held xs)) ≡ r
-    event_passed = in_slot (λ e. acts k e.action ≡ false → next ≡ best → left next (drop (i + 1) (held xs)) ≡ r) xs i
-        (event.event_passed components count reaches k xss (held xs) i (inside xs i h) best next r so)
-
 -- ---- the places with a choice
 module _ (masks : List ℕ) (s : Content) (xs : List Slot) (is : held xs ≡ entries s) (few : variables s.actions ≤ 12) (i : ℕ) (l : i < length xs) (chosen : ℕ) (so : chosen ≡ sum_by (worth masks) (take i (held xs))) where
   pub choose_yes : varies (at xs i) ≡ true → (get_or masks (get_or xs i no_slot).number 0 ≡ 0 → ⊥) → chosen + (1 * 2 ^ (get_or xs i no_slot).place) % 65536 ≡ sum_by (worth masks) (take (i + 1) (held xs))
@@ -179,10 +135,6 @@ module _ (masks : List ℕ) (s : Content) (xs : List Slot) (is : held xs ≡ ent
 
 pub choose_all : (masks : List ℕ) (s : Content) (xs : List Slot) (i chosen : ℕ) → held xs ≡ entries s → length xs ≤ i → chosen ≡ sum_by (worth masks) (take i (held xs)) → chosen ≡ choice_set masks s
 choose_all masks s xs i chosen is l = choosable.choose_all masks s (held xs) i chosen is (past xs i l)
-
-pub event_found : {E : Type 0} (components : E → List ℤ) (count : ℕ) (reaches : List ℤ → List ℤ → Bool) (k : Kind) (xss : List (List ℤ)) (s : Content) (kind : Option Kind) (xs : List Slot) (i : ℕ) (best : Option (Ranked E)) → kind ≡ Some k → held xs ≡ entries s → length xs ≤ i
-    → events_left components count reaches k xss best (drop i (held xs)) ≡ events_left components count reaches k xss None (held xs) → option_map (λ r. r.number) best ≡ event_of count reaches kind s xss
-event_found components count reaches k xss s kind xs i best is laid h = event.event_found components count reaches k xss s kind (held xs) i best is laid (past xs i h)
 
 -- a slot is written
 pub laid_in_slots : (list items : List Action) (i place then_place first : ℕ) (xs : List Slot)

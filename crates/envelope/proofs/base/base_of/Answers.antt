@@ -1,13 +1,17 @@
-use Rattle.std.proofs.Common.{◌≡◌, ◌<◌, List, map, length, get_or, ap, ◌∙◌, rules, arith}
+use Rattle.std.proofs.Common.{◌≡◌, ◌<◌, List, map, length, get_or, sym, ap, ◌∙◌, rules, arith}
 use Rattle.rulebooks.specs.Books.{Book}
 use Rattle.sheet.specs.declared.plain.Sheet.{Sheet}
-use Rattle.sheet.specs.Content.{content}
+use Rattle.sheet.specs.Content.{Content, content}
 use Rattle.envelope.specs.Supplied.{Supplied}
 use Rattle.envelope.proofs.Numbering.{places_length}
-use Rattle.envelope.proofs.Setting.{Setting}
+use Rattle.envelope.proofs.Setting.{Setting, owned}
 use Rattle.envelope.proofs.Ground.{sound_of, laws_of, grounded}
 use Rattle.envelope.proofs.base.base_of.Given as given
-use Rattle.envelope.proofs.Slots.{no_slot, number_within, share_added, share_read}
+use Rattle.envelope.proofs.Slots.{held, at, no_slot, number_within, of_turn, to_slot}
+use Rattle.envelope.proofs.BaseWalk.{share_added, share_read}
+use Rattle.envelope.proofs.Candidates.{known}
+use Rattle.effects.specs.Supplies.{exact_total}
+use Rattle.envelope.specs.Reported.{base_share}
 use Rattle.envelope.proofs.base.base_of.Goals as goal
 
 -- the sheet with its effects and the rulebook
@@ -32,10 +36,14 @@ bounds-masks-entry g c =
 
 pub loop-entry-preserved : goal.loop-entry-preserved
 loop-entry-preserved g c =
-    let e = g.E.Effect in
     let met = g.met.E.Effect in
+    let s : Content = content c.args.sheet.now in
     let list = c.args.entries.now in
     let i = c.loop-entry.entry-index in
     let set = set_of g c.args.sheet.now c.args.book.now c.args.effects.now c.requires.supplied in
-    let adds = share_read met.closed met.laws _ _ _ set c.args.form list i c.of-parts.result c.args.masks.now _ c.requires.laid c.loop-entry-test.true c.requires.full c.of-parts.ensures.own c.share_of-share.ensures in
-    share_added met.closed met.laws _ _ _ set c.args.form list i _ _ _ c.requires.laid c.loop-entry-test.true c.loop-entry.invariant adds c.sum-total.ensures
+    let adds = base_share g.E.Effect.count g.E.Effect.reaches s (g.R.Rulebook.meaning c.args.book.now) (map g.E.Effect.components c.args.effects.now) c.args.form in
+    let here = of_turn s list c.requires.laid i c.loop-entry-test.true in
+    let share = share_read met.closed met.laws _ _ _ set c.args.form (at list i) c.of-parts.result c.args.masks.now _ (here _ (known met.closed met.laws _ _ _ set 4095)) (here _ (known met.closed met.laws _ _ _ set 0))
+    c.requires.full c.of-parts.ensures.own c.share_of-share.ensures in
+    share_added met.closed met.laws _ _ _ set c.args.form (held list) i (at list i) _ _ _ c.requires.laid (here _ (owned met.closed met.laws _ _ _ set)) c.loop-entry.invariant share c.sum-total.ensures
+    ∙ ap (λ d. exact_total g.E.Effect.count (map adds d)) (sym (to_slot list i c.loop-entry-test.true))

@@ -4,7 +4,7 @@ use Rattle.sheet.specs.declared.plain.Sheet.{Sheet}
 use Rattle.sheet.specs.Content.{content}
 use Rattle.envelope.specs.Supplied.{Supplied}
 use Rattle.envelope.proofs.Setting.{Setting}
-use Rattle.envelope.proofs.Ground.{sound_of, laws_of, grounded, lent}
+use Rattle.envelope.proofs.Ground.{sound_of, grounded, lent}
 use Rattle.envelope.proofs.base.base_of.Given as given
 use Rattle.envelope.proofs.Slots.{at_turn, base_done, mask_within, no_slot, number_within, share_added, share_read}
 use Rattle.envelope.proofs.base.base_of.Goals as goal
@@ -14,9 +14,8 @@ set_of : (g : given.Over) (sheet : Sheet) (book : g.row.R.Denot) (es : List g.ro
     → Setting g.met.E.Effect.closed g.met.E.Effect.laws (content sheet) (g.R.Rulebook.meaning book) (map g.E.Effect.components es)
 set_of g sheet book es supplied =
     let b : Book = g.R.Rulebook.meaning book in
-    let law = g.met.R.Rulebook in
     grounded g.met.E.Effect.closed g.met.E.Effect.laws (content sheet) b es (sound_of _ (content sheet).actions sheet.limited sheet.formed)
-    (laws_of b (law.some book) (law.permanent book) (law.variable book) (law.uppers book) (law.prestresses book) (law.leadings book)) supplied
+    (g.met.R.Rulebook.laws book) supplied
 
 pub loop-entry-init : goal.loop-entry-init
 loop-entry-init g c = c.zero-total.ensures

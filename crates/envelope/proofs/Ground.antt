@@ -5,20 +5,19 @@ use Rattle.std.proofs.ByRecursion.{All-take, All-drop, All-get_or, All-from_get_
 use Rattle.std.proofs.lemmas.List.{take-map, drop-map}
 use Rattle.std.proofs.lemmas.Bool.{and_parts, leb-true}
 use Rattle.std.specs.List.{AllByRecursion as All}
-use Rattle.basis.specs.Factors.{most}
 use Rattle.basis.specs.Vocabulary.{is_variable, allows}
-use Rattle.basis.specs.declared.category.Category.{Category}
 use Rattle.effects.specs.Laws.{Closed, Laws}
-use Rattle.rulebooks.specs.Books.{Book}
+use Rattle.rulebooks.specs.Books.{Book, BookLaws}
 use Rattle.sheet.specs.declared.action.Action.{Action}
-use Rattle.sheet.specs.Content.{Content}
+use Rattle.sheet.specs.declared.plain.Sheet.{Sheet}
+use Rattle.sheet.specs.Content.{Content, content}
 use Rattle.sheet.specs.Limits.{no_action, agree, parts_allowed, Limited, Formed}
 use Rattle.envelope.specs.Entries.{Entry, entries, parts_of, nowhere}
 use Rattle.envelope.specs.Supplied.{Supplied, OneAction}
 use Rattle.envelope.proofs.Numbering.{entry_at, entries_length, entry_parts, at_number, at_action, of_number}
 use Rattle.envelope.proofs.Weights.{parts_of_values}
 use Rattle.envelope.proofs.Setting.{Setting}
-use Rattle.envelope.proofs.Promised.{Sound, formed_all, BookLaws}
+use Rattle.envelope.proofs.Promised.{Sound, formed_all, form_laws}
 
 -- an action has at most 16 parts
 pub few_parts : (list : List Action) → Formed list → All (λ a. a.parts ≤ 16) list
@@ -33,14 +32,6 @@ few_parts list formed =
 pub sound_of : (room : ℕ) (list : List Action) → Limited room list → Formed list → Sound list
 sound_of room list limited formed = record { short = limited.1; few = limited.3; some = formed_all list formed }
 
--- what the code's rulebook keeps
-pub laws_of : (b : Book) → 1 ≤ b.forms → ((i : ℕ) → (b.form i).lower ≤ (b.form i).upper) → ((i : ℕ) (c : Category) → (b.form i).accompanying c ≤ (b.form i).leading c)
-    → ((i : ℕ) → (b.form i).upper ≤ most) → ((i : ℕ) → (b.form i).prestress ≤ most) → ((i : ℕ) (c : Category) → (b.form i).leading c ≤ most) → BookLaws b
-laws_of b some permanent variable uppers prestresses leadings = record {
-  some = some;
-  forms = λ i. record { permanent = permanent i; variable = variable i; upper = uppers i; prestress = prestresses i; leading = leadings i };
-}
-
 pub grounded : {E : Type 0} {components : E → List ℤ} {count : ℕ} {reaches : List ℤ → List ℤ → Bool} (kind : Closed components count) (laws : Laws components count reaches)
     (s : Content) (b : Book) (es : List E) → Sound s.actions → BookLaws b → Supplied s (map components es) → Setting kind laws s b (map components es)
 grounded kind laws s b es so bl supplied = record {
@@ -49,8 +40,13 @@ grounded kind laws s b es so bl supplied = record {
   short = so.short;
   some = so.some;
   parts = parts_of_values kind laws es supplied.small;
-  forms = bl.forms;
+  forms = form_laws b bl;
 }
+
+-- the code's sheet with its effects and a rulebook
+pub on_sheet : {E : Type 0} {components : E → List ℤ} {count : ℕ} {reaches : List ℤ → List ℤ → Bool} (kind : Closed components count) (laws : Laws components count reaches)
+    (sheet : Sheet) (b : Book) (es : List E) → BookLaws b → Supplied (content sheet) (map components es) → Setting kind laws (content sheet) b (map components es)
+on_sheet kind laws sheet b es bl supplied = grounded kind laws (content sheet) b es (sound_of _ (content sheet).actions sheet.limited sheet.formed) bl supplied
 
 -- an action's own parts among the effects
 pub record AtHand {E : Type 0} (components : E → List ℤ) (es : List E) (e : Entry) : Type 0 where

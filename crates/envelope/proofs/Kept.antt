@@ -2,7 +2,7 @@
 use Rattle.std.proofs.Common.{◌≡◌, ℕ, Bool, T, List, ◌∷◌, ◌++◌, map, length, drop, ℤ, Err, sym, refl, ap, ◌∙◌, subst}
 use lib.ListN.{length-map}
 use Rattle.effects.specs.Laws.{Closed, Laws}
-use Rattle.rulebooks.specs.Books.{Book}
+use Rattle.rulebooks.specs.Books.{Book, BookLaws}
 use Rattle.sheet.specs.Content.{Content}
 use Rattle.sheet.specs.Histories.{Edit, Call, edit, issue, reopen, envelope, State, issued, Runs, ends, edits, issues, reopens, asks, Leaves}
 use Rattle.sheet.specs.Laws.{Sound as SoundSheet}
@@ -18,7 +18,7 @@ use Rattle.envelope.specs.Supplied.{Supplied, Accepted}
 use Rattle.envelope.specs.Promise.{OfFound, NothingOutranks, BreaksNoRule, AsReported, NoOtherIsReported, strip_by, Unchanged, WholePromise}
 use Rattle.envelope.specs.Runs as run
 use Rattle.envelope.specs.Runs.{Step, Run, Any, Growing, RunLaw}
-use Rattle.envelope.proofs.Promised.{Sound, BookLaws, small_all, formed_all, as_reported, no_other_is_reported, nothing_outranks, breaks_no_rule, not_sunk, stays_admissible, found_answer}
+use Rattle.envelope.proofs.Promised.{Sound, small_all, formed_all, as_reported, no_other_is_reported, nothing_outranks, breaks_no_rule, not_sunk, stays_admissible, found_answer}
 use Rattle.envelope.proofs.Histories.{grows_extends}
 
 -- ---- runs as histories

@@ -6,7 +6,7 @@ use Rattle.std.proofs.lemmas.Bool.{cases_Bool, eqb-true, leb-true, le-leb, lt-le
 use Rattle.std.specs.List.{AllByRecursion as All}
 use Rattle.effects.specs.Components.{size}
 use Rattle.effects.specs.Laws.{Closed, Laws}
-use Rattle.rulebooks.specs.Books.{Book}
+use Rattle.rulebooks.specs.Books.{Book, BookLaws}
 use Rattle.sheet.specs.declared.action.Action.{Action}
 use Rattle.sheet.specs.Content.{Content}
 use Rattle.sheet.specs.Limits.{no_action, parts_in, agree, parts_allowed, Formed}
@@ -42,10 +42,9 @@ formed_all list formed =
     let counted = and_parts (allows a.kind a.spread) (parts_allowed a.parts) whole.1 in
     leb-true 1 a.parts (and_parts (leb 1 a.parts) (leb a.parts 16) counted.1).0)
 
--- the laws of a rulebook
-pub record BookLaws (b : Book) : Type 0 where
-  pub some : 1 ≤ b.forms
-  pub forms : (i : ℕ) → FormLaws (b.form i)
+-- the laws of a rulebook, form by form
+pub form_laws : (b : Book) → BookLaws b → (i : ℕ) → FormLaws (b.form i)
+form_laws b bl i = record { permanent = bl.permanent i; variable = bl.variable i; upper = bl.uppers i; prestress = bl.prestresses i; leading = bl.leadings i }
 
 -- an effect is found only where all questions were answered yes
 module _ (n : ℕ) (reaches : List ℤ → List ℤ → Bool) (s : Content) (b : Book) (xss : List (List ℤ)) (P : List ℤ → Combination → Type 0) where
@@ -110,7 +109,7 @@ module _ {E : Type 0} {components : E → List ℤ} {count : ℕ} {reaches : Lis
     short = so.short;
     some = so.some;
     parts = parts_of_values kind laws es (small_all 0 (map components es) small);
-    forms = bl.forms;
+    forms = form_laws b bl;
   }
 
   module _ (s : Content) (b : Book) (es : List E) (so : Sound s.actions) (bl : BookLaws b) where

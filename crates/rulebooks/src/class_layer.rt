@@ -1,10 +1,10 @@
 // The class layer: reliability classes over any rulebook.
-ghost use Rattle.std.specs.Prelude.{◌≡◌};
+ghost use Rattle.std.specs.Prelude.{◌≡◌, ◌≢◌};
+ghost use Rattle.basis.specs.Factors.{scaled_by};
+ghost use Rattle.basis.specs.declared.situation.Situation.TheVariants.{Persistent};
 ghost use Rattle.rulebooks.specs.Layers.{hundredths as hundredths_of, classed, ClassLeavesAlone, GeoUnderRc1};
-ghost use Rattle.rulebooks.specs.LayerLaws.{class_variable};
 ghost use Rattle.std.proofs.Common.{rules};
 
-use crate::constant::Constant;
 use crate::rulebook::Rulebook;
 use basis::category::Category;
 use basis::factor::Factor;
@@ -19,7 +19,7 @@ pub enum Class {
 }
 
 impl Class {
-    // The factor K on unfavourable actions, in hundredths.
+    // The factor K on unfavourable actions, in hundredths. No number of the variant, since two classes might have the same K.
     pub fn hundredths(self) -> u8
         ensures { result ≡ hundredths_of self }
     {
@@ -47,40 +47,36 @@ impl<R: Rulebook> ClassLayer<R> {
     {
         ClassLayer { class, below }
     }
+
+    // K times the factor in persistent situations.
+    fn scaled(&self, factor: Factor) -> Factor
+        ensures persistent { R.SITUATION ≡ Persistent → result.units ≡ scaled_by (hundredths_of self.now.class) factor.units }
+        ensures elsewhere { (R.SITUATION ≢ Persistent) → result.units ≡ factor.units }
+    {
+        if R::SITUATION == Situation::Persistent {
+            factor.scaled(self.class.hundredths())
+        } else {
+            factor
+        }
+    }
 }
 
 impl<R: Rulebook> Rulebook for ClassLayer<R> {
-    type When = R::When;
+    const SITUATION: Situation = R::SITUATION;
 
-    type Count = R::Count;
+    const FORMS: u8 = R::FORMS;
 
-    const SITUATION: R::When = R::SITUATION;
+    ghost SITUATION = { R.SITUATION };
 
-    const FORMS: R::Count = R::FORMS;
+    ghost FORMS = { R.FORMS };
 
-    ghost meaning = { λ s. classed s.class (R.Rulebook.meaning s.below) };
+    ghost meaning = { λ s. classed s.class (R.meaning s.below) };
 
     ghost situated = { Prim.search rules };
 
     ghost counted = { Prim.search rules };
 
-    ghost some = { Prim.search rules };
-
-    ghost few = { Prim.search rules };
-
-    ghost permanent = { Prim.search rules };
-
-    ghost variable = { λ r i c.
-        let below = R.Rulebook.meaning r.below in
-        class_variable below.situation r.class (below.form i) c (R.Rulebook.variable r.below i c) };
-
-    ghost uppers = { Prim.search rules };
-
-    ghost prestresses = { Prim.search rules };
-
-    ghost leadings = { Prim.search rules };
-
-    ghost past = { Prim.search rules };
+    ghost laws = { Prim.search rules };
 
     fn splits(&self) -> bool {
         self.below.splits()
@@ -90,14 +86,10 @@ impl<R: Rulebook> Rulebook for ClassLayer<R> {
         self.below.has_leader(form)
     }
 
+    // Outside persistent situations the guard changes nothing, since lower is at most upper.
     fn upper(&self, form: u8) -> Factor {
-        let upper = self.below.upper(form);
-        match R::SITUATION.get() {
-            Situation::Persistent => upper
-                .scaled(self.class.hundredths())
-                .at_least(self.below.lower(form)),
-            _ => upper,
-        }
+        self.scaled(self.below.upper(form))
+            .at_least(self.below.lower(form))
     }
 
     fn lower(&self, form: u8) -> Factor {
@@ -109,18 +101,10 @@ impl<R: Rulebook> Rulebook for ClassLayer<R> {
     }
 
     fn leading(&self, form: u8, category: Category) -> Factor {
-        let leading = self.below.leading(form, category);
-        match R::SITUATION.get() {
-            Situation::Persistent => leading.scaled(self.class.hundredths()),
-            _ => leading,
-        }
+        self.scaled(self.below.leading(form, category))
     }
 
     fn accompanying(&self, form: u8, category: Category) -> Factor {
-        let accompanying = self.below.accompanying(form, category);
-        match R::SITUATION.get() {
-            Situation::Persistent => accompanying.scaled(self.class.hundredths()),
-            _ => accompanying,
-        }
+        self.scaled(self.below.accompanying(form, category))
     }
 }

@@ -2,23 +2,22 @@
 ghost use Rattle.rulebooks.specs.Table.{accidental, seismic};
 ghost use Rattle.std.proofs.Common.{rules};
 
-use crate::constant::{AccidentalSituation, Forms, SeismicSituation};
-use crate::row::{Row, Share, Term};
+use crate::row::{Row, Share};
 use crate::standard::Expression;
-use basis::factor::Factor;
+use basis::situation::Situation;
 
 // 6.11b
 #[derive(Clone, Copy)]
 pub struct AccidentalDesign;
 
 impl Expression for AccidentalDesign {
-    type When = AccidentalSituation;
+    const SITUATION: Situation = Situation::Accidental;
 
-    type Count = Forms<1>;
+    const FORMS: u8 = 1;
 
-    const SITUATION: AccidentalSituation = AccidentalSituation;
+    ghost SITUATION = { accidental.situation };
 
-    const FORMS: Forms<1> = Forms;
+    ghost FORMS = { accidental.forms };
 
     ghost book = { accidental };
 
@@ -26,33 +25,14 @@ impl Expression for AccidentalDesign {
 
     ghost counted = { Prim.search rules };
 
-    ghost some = { Prim.search rules };
-
-    ghost few = { Prim.search rules };
-
-    ghost permanent = { Prim.search rules };
-
-    ghost variable = { Prim.search rules };
-
-    ghost uppers = { Prim.search rules };
-
-    ghost prestresses = { Prim.search rules };
-
-    ghost leadings = { Prim.search rules };
-
-    ghost past = { Prim.search rules };
+    ghost laws = { Prim.search rules };
 
     fn splits() -> bool {
         false
     }
 
     fn row(_form: u8) -> Row {
-        Row::led(
-            Factor::ONE,
-            Factor::ONE,
-            Term::new(100, Share::Psi1),
-            Term::new(100, Share::Psi2),
-        )
+        Row::unfactored(Some(Share::Psi1), Share::Psi2)
     }
 }
 
@@ -61,13 +41,13 @@ impl Expression for AccidentalDesign {
 pub struct SeismicDesign;
 
 impl Expression for SeismicDesign {
-    type When = SeismicSituation;
+    const SITUATION: Situation = Situation::Seismic;
 
-    type Count = Forms<1>;
+    const FORMS: u8 = 1;
 
-    const SITUATION: SeismicSituation = SeismicSituation;
+    ghost SITUATION = { seismic.situation };
 
-    const FORMS: Forms<1> = Forms;
+    ghost FORMS = { seismic.forms };
 
     ghost book = { seismic };
 
@@ -75,27 +55,13 @@ impl Expression for SeismicDesign {
 
     ghost counted = { Prim.search rules };
 
-    ghost some = { Prim.search rules };
-
-    ghost few = { Prim.search rules };
-
-    ghost permanent = { Prim.search rules };
-
-    ghost variable = { Prim.search rules };
-
-    ghost uppers = { Prim.search rules };
-
-    ghost prestresses = { Prim.search rules };
-
-    ghost leadings = { Prim.search rules };
-
-    ghost past = { Prim.search rules };
+    ghost laws = { Prim.search rules };
 
     fn splits() -> bool {
         false
     }
 
     fn row(_form: u8) -> Row {
-        Row::unled(Factor::ONE, Factor::ONE, Term::new(100, Share::Psi2))
+        Row::unfactored(None, Share::Psi2)
     }
 }

@@ -2,7 +2,6 @@
 #![tactic(auto)]
 
 pub mod class_layer;
-pub mod constant;
 pub mod event;
 mod psi;
 mod row;

@@ -1,7 +1,7 @@
 // A row of the table of factors: one form of an expression of EN 1990.
 ghost use Rattle.std.specs.Prelude.{◌≡◌, ◌≤◌};
-ghost use Rattle.rulebooks.specs.Rows.{tenths as tenths_of, term, term_of, form_of};
-ghost use Rattle.rulebooks.specs.Table.{led as led_form, unled as unled_form};
+ghost use Rattle.std.specs.Option.{option_map};
+ghost use Rattle.rulebooks.specs.Rows.{tenths as tenths_of, term, term_of, row_form, form_of};
 
 use crate::psi::psi_of;
 use basis::category::Category;
@@ -28,13 +28,14 @@ pub struct Term {
 pub struct Row {
     pub(crate) upper: Factor,
     pub(crate) lower: Factor,
-    leading: Option<Term>,
-    accompanying: Term,
+    pub(crate) leading: Option<Term>,
+    pub(crate) accompanying: Term,
 }
 
 impl Share {
     fn tenths(self, category: Category) -> u8
-        ensures { (result ≡ tenths_of self category) × (result ≤ 10) }
+        ensures value { result ≡ tenths_of self category }
+        ensures within { result ≤ 10 }
     {
         let psi = psi_of(category);
         match self {
@@ -53,36 +54,23 @@ impl Term {
         Term { gamma, share }
     }
 
-    pub(crate) fn at(self, category: Category) -> Factor
+    fn at(self, category: Category) -> Factor
         ensures { result.units ≡ term self category }
     {
-        let tenths = self.share.tenths(category);
-        Factor::product(self.gamma, tenths)
+        Factor::product(self.gamma, self.share.tenths(category))
     }
 }
 
 impl Row {
-    // A form with a leader.
-    pub(crate) fn led(upper: Factor, lower: Factor, leading: Term, accompanying: Term) -> Row
-        ensures { form_of result ≡ led_form upper.units lower.units (term leading) (term accompanying) }
+    // A form whose partial factors are all 1.00.
+    pub(crate) fn unfactored(leading: Option<Share>, accompanying: Share) -> Row
+        ensures { form_of result ≡ row_form 100_000 100_000 (option_map (term_of 100) leading) (term_of 100 accompanying) }
     {
         Row {
-            upper,
-            lower,
-            leading: Some(leading),
-            accompanying,
-        }
-    }
-
-    // A form without leader.
-    pub(crate) fn unled(upper: Factor, lower: Factor, accompanying: Term) -> Row
-        ensures { form_of result ≡ unled_form upper.units lower.units (term accompanying) }
-    {
-        Row {
-            upper,
-            lower,
-            leading: None,
-            accompanying,
+            upper: Factor::ONE,
+            lower: Factor::ONE,
+            leading: leading.map(|share| Term::new(100, share)),
+            accompanying: Term::new(100, accompanying),
         }
     }
 
@@ -101,10 +89,7 @@ impl Row {
     pub(crate) fn leading(&self, category: Category) -> Factor
         ensures { result.units ≡ (form_of self.now).leading category }
     {
-        match self.leading {
-            Some(term) => term.at(category),
-            None => self.accompanying.at(category),
-        }
+        self.leading.unwrap_or(self.accompanying).at(category)
     }
 
     pub(crate) fn accompanying(&self, category: Category) -> Factor

@@ -1,23 +1,23 @@
 // What a rulebook offers, by the fixed numbers that it means.
-ghost use Rattle.std.specs.Prelude.{◌≡◌, ℕ, ◌≤◌};
-ghost use Rattle.basis.specs.Factors.{most};
-ghost use Rattle.basis.specs.declared.category.Category.{Category};
+ghost use Rattle.std.specs.Prelude.{◌≡◌, ℕ};
+ghost use Rattle.basis.specs.declared.situation.Situation.{Situation};
 ghost use Rattle.rulebooks.specs.Books.{Book, BookLaws};
 
-use crate::constant::Constant;
 use basis::category::Category;
 use basis::factor::Factor;
 use basis::situation::Situation;
 
 // The factors of a design situation. Forms are counted from 0, and a form past the last counts as form 0.
 pub trait Rulebook {
-    type When: Constant<Situation> + Copy;
+    const SITUATION: Situation;
 
-    type Count: Constant<u8> + Copy;
+    // 1 or 2.
+    const FORMS: u8;
 
-    const SITUATION: Self::When;
+    // The constants as proofs know them.
+    ghost SITUATION: { Situation };
 
-    const FORMS: Self::Count;
+    ghost FORMS: { ℕ };
 
     ghost meaning: { Self → Book };
 
@@ -43,25 +43,12 @@ pub trait Rulebook {
     fn accompanying(&self, form: u8, category: Category) -> Factor
         ensures { result.units ≡ ((meaning self.now).form form).accompanying category };
 
-    ghost situated: { (r : Self) → (meaning r).situation ≡ Self.When.Constant.value };
+    // The constants are the situation and the number of forms that are meant.
+    ghost situated: { (r : Self) → (meaning r).situation ≡ SITUATION };
 
-    ghost counted: { (r : Self) → (meaning r).forms ≡ Self.Count.Constant.value };
+    ghost counted: { (r : Self) → (meaning r).forms ≡ FORMS };
 
-    ghost some: { (r : Self) → 1 ≤ (meaning r).forms };
-
-    ghost few: { (r : Self) → (meaning r).forms ≤ 2 };
-
-    ghost permanent: { (r : Self) (i : ℕ) → ((meaning r).form i).lower ≤ ((meaning r).form i).upper };
-
-    ghost variable: { (r : Self) (i : ℕ) (c : Category) → ((meaning r).form i).accompanying c ≤ ((meaning r).form i).leading c };
-
-    ghost uppers: { (r : Self) (i : ℕ) → ((meaning r).form i).upper ≤ most };
-
-    ghost prestresses: { (r : Self) (i : ℕ) → ((meaning r).form i).prestress ≤ most };
-
-    ghost leadings: { (r : Self) (i : ℕ) (c : Category) → ((meaning r).form i).leading c ≤ most };
-
-    ghost past: { (r : Self) (i : ℕ) → (meaning r).forms ≤ i → (meaning r).form i ≡ (meaning r).form 0 };
+    ghost laws: { (r : Self) → BookLaws (meaning r) };
 }
 
 // The situation of a rulebook. Every rulebook, and so every pile of layers, keeps the laws.
@@ -70,7 +57,7 @@ pub fn situation_of<R: Rulebook>(rules: &R) -> Situation
     ensures laws { BookLaws (R.meaning rules.now) }
 {
     let _ = rules;
-    R::SITUATION.get()
+    R::SITUATION
 }
 
 // The number of forms of a rulebook: 1 or 2.
@@ -78,5 +65,5 @@ pub fn forms_of<R: Rulebook>(rules: &R) -> u8
     ensures { result ≡ (R.meaning rules.now).forms }
 {
     let _ = rules;
-    R::FORMS.get()
+    R::FORMS
 }

@@ -2,23 +2,22 @@
 ghost use Rattle.rulebooks.specs.Table.{characteristic, frequent, quasi_permanent};
 ghost use Rattle.std.proofs.Common.{rules};
 
-use crate::constant::{Forms, ServiceabilitySituation};
-use crate::row::{Row, Share, Term};
+use crate::row::{Row, Share};
 use crate::standard::Expression;
-use basis::factor::Factor;
+use basis::situation::Situation;
 
 // 6.14b
 #[derive(Clone, Copy)]
 pub struct Characteristic;
 
 impl Expression for Characteristic {
-    type When = ServiceabilitySituation;
+    const SITUATION: Situation = Situation::Serviceability;
 
-    type Count = Forms<1>;
+    const FORMS: u8 = 1;
 
-    const SITUATION: ServiceabilitySituation = ServiceabilitySituation;
+    ghost SITUATION = { characteristic.situation };
 
-    const FORMS: Forms<1> = Forms;
+    ghost FORMS = { characteristic.forms };
 
     ghost book = { characteristic };
 
@@ -26,33 +25,14 @@ impl Expression for Characteristic {
 
     ghost counted = { Prim.search rules };
 
-    ghost some = { Prim.search rules };
-
-    ghost few = { Prim.search rules };
-
-    ghost permanent = { Prim.search rules };
-
-    ghost variable = { Prim.search rules };
-
-    ghost uppers = { Prim.search rules };
-
-    ghost prestresses = { Prim.search rules };
-
-    ghost leadings = { Prim.search rules };
-
-    ghost past = { Prim.search rules };
+    ghost laws = { Prim.search rules };
 
     fn splits() -> bool {
         false
     }
 
     fn row(_form: u8) -> Row {
-        Row::led(
-            Factor::ONE,
-            Factor::ONE,
-            Term::new(100, Share::Whole),
-            Term::new(100, Share::Psi0),
-        )
+        Row::unfactored(Some(Share::Whole), Share::Psi0)
     }
 }
 
@@ -61,13 +41,13 @@ impl Expression for Characteristic {
 pub struct Frequent;
 
 impl Expression for Frequent {
-    type When = ServiceabilitySituation;
+    const SITUATION: Situation = Situation::Serviceability;
 
-    type Count = Forms<1>;
+    const FORMS: u8 = 1;
 
-    const SITUATION: ServiceabilitySituation = ServiceabilitySituation;
+    ghost SITUATION = { frequent.situation };
 
-    const FORMS: Forms<1> = Forms;
+    ghost FORMS = { frequent.forms };
 
     ghost book = { frequent };
 
@@ -75,33 +55,14 @@ impl Expression for Frequent {
 
     ghost counted = { Prim.search rules };
 
-    ghost some = { Prim.search rules };
-
-    ghost few = { Prim.search rules };
-
-    ghost permanent = { Prim.search rules };
-
-    ghost variable = { Prim.search rules };
-
-    ghost uppers = { Prim.search rules };
-
-    ghost prestresses = { Prim.search rules };
-
-    ghost leadings = { Prim.search rules };
-
-    ghost past = { Prim.search rules };
+    ghost laws = { Prim.search rules };
 
     fn splits() -> bool {
         false
     }
 
     fn row(_form: u8) -> Row {
-        Row::led(
-            Factor::ONE,
-            Factor::ONE,
-            Term::new(100, Share::Psi1),
-            Term::new(100, Share::Psi2),
-        )
+        Row::unfactored(Some(Share::Psi1), Share::Psi2)
     }
 }
 
@@ -110,13 +71,13 @@ impl Expression for Frequent {
 pub struct QuasiPermanent;
 
 impl Expression for QuasiPermanent {
-    type When = ServiceabilitySituation;
+    const SITUATION: Situation = Situation::Serviceability;
 
-    type Count = Forms<1>;
+    const FORMS: u8 = 1;
 
-    const SITUATION: ServiceabilitySituation = ServiceabilitySituation;
+    ghost SITUATION = { quasi_permanent.situation };
 
-    const FORMS: Forms<1> = Forms;
+    ghost FORMS = { quasi_permanent.forms };
 
     ghost book = { quasi_permanent };
 
@@ -124,27 +85,13 @@ impl Expression for QuasiPermanent {
 
     ghost counted = { Prim.search rules };
 
-    ghost some = { Prim.search rules };
-
-    ghost few = { Prim.search rules };
-
-    ghost permanent = { Prim.search rules };
-
-    ghost variable = { Prim.search rules };
-
-    ghost uppers = { Prim.search rules };
-
-    ghost prestresses = { Prim.search rules };
-
-    ghost leadings = { Prim.search rules };
-
-    ghost past = { Prim.search rules };
+    ghost laws = { Prim.search rules };
 
     fn splits() -> bool {
         false
     }
 
     fn row(_form: u8) -> Row {
-        Row::unled(Factor::ONE, Factor::ONE, Term::new(100, Share::Psi2))
+        Row::unfactored(None, Share::Psi2)
     }
 }

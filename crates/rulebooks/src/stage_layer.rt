@@ -1,11 +1,12 @@
 // The stage layer: a category struck from any rulebook.
 ghost use Rattle.std.specs.Prelude.{◌≡◌};
-ghost use Rattle.rulebooks.specs.Layers.{staged, StageLeavesAlone};
+ghost use Rattle.rulebooks.specs.Layers.{without, staged, StageLeavesAlone};
 ghost use Rattle.std.proofs.Common.{rules};
 
 use crate::rulebook::Rulebook;
 use basis::category::Category;
 use basis::factor::Factor;
+use basis::situation::Situation;
 
 // Strikes one category: its leading and accompanying factors become 0.
 #[derive(Clone, Copy)]
@@ -22,38 +23,36 @@ impl<R: Rulebook> StageLayer<R> {
     {
         StageLayer { struck, below }
     }
+
+    // The category's factor, or 0 for the struck category.
+    fn without_struck(&self, category: Category, factor: Factor) -> Factor
+        ensures { result.units ≡ without self.now.struck (λ _. factor.units) category }
+    {
+        if category == self.struck {
+            Factor::ZERO
+        } else {
+            factor
+        }
+    }
 }
 
+// What passes through stands in both layers: a trait of layers would take more members than these few methods.
 impl<R: Rulebook> Rulebook for StageLayer<R> {
-    type When = R::When;
+    const SITUATION: Situation = R::SITUATION;
 
-    type Count = R::Count;
+    const FORMS: u8 = R::FORMS;
 
-    const SITUATION: R::When = R::SITUATION;
+    ghost SITUATION = { R.SITUATION };
 
-    const FORMS: R::Count = R::FORMS;
+    ghost FORMS = { R.FORMS };
 
-    ghost meaning = { λ s. staged s.struck (R.Rulebook.meaning s.below) };
+    ghost meaning = { λ s. staged s.struck (R.meaning s.below) };
 
     ghost situated = { Prim.search rules };
 
     ghost counted = { Prim.search rules };
 
-    ghost some = { Prim.search rules };
-
-    ghost few = { Prim.search rules };
-
-    ghost permanent = { Prim.search rules };
-
-    ghost variable = { Prim.search rules };
-
-    ghost uppers = { Prim.search rules };
-
-    ghost prestresses = { Prim.search rules };
-
-    ghost leadings = { Prim.search rules };
-
-    ghost past = { Prim.search rules };
+    ghost laws = { Prim.search rules };
 
     fn splits(&self) -> bool {
         self.below.splits()
@@ -76,18 +75,10 @@ impl<R: Rulebook> Rulebook for StageLayer<R> {
     }
 
     fn leading(&self, form: u8, category: Category) -> Factor {
-        if category == self.struck {
-            Factor::ZERO
-        } else {
-            self.below.leading(form, category)
-        }
+        self.without_struck(category, self.below.leading(form, category))
     }
 
     fn accompanying(&self, form: u8, category: Category) -> Factor {
-        if category == self.struck {
-            Factor::ZERO
-        } else {
-            self.below.accompanying(form, category)
-        }
+        self.without_struck(category, self.below.accompanying(form, category))
     }
 }

@@ -1,12 +1,10 @@
 // The rulebook of an expression of EN 1990.
-ghost use Rattle.std.specs.Prelude.{◌≡◌, ℕ, ◌≤◌};
-ghost use Rattle.basis.specs.Factors.{most};
-ghost use Rattle.basis.specs.declared.category.Category.{Category};
-ghost use Rattle.rulebooks.specs.Books.{Book};
+ghost use Rattle.std.specs.Prelude.{◌≡◌, ℕ};
+ghost use Rattle.basis.specs.declared.situation.Situation.{Situation};
+ghost use Rattle.rulebooks.specs.Books.{Book, BookLaws};
 ghost use Rattle.rulebooks.specs.Rows.{form_of};
 ghost use Rattle.std.proofs.Common.{rules};
 
-use crate::constant::Constant;
 use crate::row::Row;
 use crate::rulebook::Rulebook;
 use basis::category::Category;
@@ -15,42 +13,28 @@ use basis::situation::Situation;
 
 // An expression of the code, by its rows.
 pub trait Expression {
-    type When: Constant<Situation> + Copy;
+    const SITUATION: Situation;
 
-    type Count: Constant<u8> + Copy;
+    const FORMS: u8;
 
-    const SITUATION: Self::When;
+    ghost SITUATION: { Situation };
 
-    const FORMS: Self::Count;
+    ghost FORMS: { ℕ };
 
     ghost book: { Book };
 
+    // A function, since a constant would need a ghost member and a law beside it.
     fn splits() -> bool
         ensures { result ≡ book.splits };
 
     fn row(form: u8) -> Row
         ensures { form_of result ≡ book.form form };
 
-    ghost situated: { book.situation ≡ Self.When.Constant.value };
+    ghost situated: { book.situation ≡ SITUATION };
 
-    ghost counted: { book.forms ≡ Self.Count.Constant.value };
+    ghost counted: { book.forms ≡ FORMS };
 
-    ghost some: { 1 ≤ book.forms };
-
-    ghost few: { book.forms ≤ 2 };
-
-    ghost permanent: { (i : ℕ) → (book.form i).lower ≤ (book.form i).upper };
-
-    ghost variable: { (i : ℕ) (c : Category) → (book.form i).accompanying c ≤ (book.form i).leading c };
-
-    ghost uppers: { (i : ℕ) → (book.form i).upper ≤ most };
-
-    ghost prestresses: { (i : ℕ) → (book.form i).prestress ≤ most };
-
-    ghost leadings: { (i : ℕ) (c : Category) → (book.form i).leading c ≤ most };
-
-    // A form past the last counts as form 0.
-    ghost past: { (i : ℕ) → book.forms ≤ i → book.form i ≡ book.form 0 };
+    ghost laws: { BookLaws book };
 }
 
 // The rulebook of an expression.
@@ -58,35 +42,21 @@ pub trait Expression {
 pub struct Standard<E>(pub E);
 
 impl<E: Expression> Rulebook for Standard<E> {
-    type When = E::When;
+    const SITUATION: Situation = E::SITUATION;
 
-    type Count = E::Count;
+    const FORMS: u8 = E::FORMS;
 
-    const SITUATION: E::When = E::SITUATION;
+    ghost SITUATION = { E.SITUATION };
 
-    const FORMS: E::Count = E::FORMS;
+    ghost FORMS = { E.FORMS };
 
-    ghost meaning = { λ _. E.Expression.book };
+    ghost meaning = { λ _. E.book };
 
     ghost situated = { Prim.search rules };
 
     ghost counted = { Prim.search rules };
 
-    ghost some = { Prim.search rules };
-
-    ghost few = { Prim.search rules };
-
-    ghost permanent = { Prim.search rules };
-
-    ghost variable = { Prim.search rules };
-
-    ghost uppers = { Prim.search rules };
-
-    ghost prestresses = { Prim.search rules };
-
-    ghost leadings = { Prim.search rules };
-
-    ghost past = { Prim.search rules };
+    ghost laws = { λ _. E.laws };
 
     fn splits(&self) -> bool {
         E::splits()

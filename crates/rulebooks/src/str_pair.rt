@@ -2,23 +2,23 @@
 ghost use Rattle.rulebooks.specs.Table.{str_pair};
 ghost use Rattle.std.proofs.Common.{rules};
 
-use crate::constant::{Forms, PersistentSituation};
 use crate::row::{Row, Share, Term};
 use crate::standard::Expression;
 use basis::factor::Factor;
+use basis::situation::Situation;
 
 // 6.10a, and 6.10b with ξ = 0.85, with Table A1.2(B)
 #[derive(Clone, Copy)]
 pub struct StrPair;
 
 impl Expression for StrPair {
-    type When = PersistentSituation;
+    const SITUATION: Situation = Situation::Persistent;
 
-    type Count = Forms<2>;
+    const FORMS: u8 = 2;
 
-    const SITUATION: PersistentSituation = PersistentSituation;
+    ghost SITUATION = { str_pair.situation };
 
-    const FORMS: Forms<2> = Forms;
+    ghost FORMS = { str_pair.forms };
 
     ghost book = { str_pair };
 
@@ -26,21 +26,7 @@ impl Expression for StrPair {
 
     ghost counted = { Prim.search rules };
 
-    ghost some = { Prim.search rules };
-
-    ghost few = { Prim.search rules };
-
-    ghost permanent = { Prim.search rules };
-
-    ghost variable = { Prim.search rules };
-
-    ghost uppers = { Prim.search rules };
-
-    ghost prestresses = { Prim.search rules };
-
-    ghost leadings = { Prim.search rules };
-
-    ghost past = { Prim.search rules };
+    ghost laws = { Prim.search rules };
 
     fn splits() -> bool {
         false
@@ -48,18 +34,19 @@ impl Expression for StrPair {
 
     fn row(form: u8) -> Row {
         if form == 1 {
-            Row::led(
-                Factor::from_hundredths(135).scaled(85),
-                Factor::ONE,
-                Term::new(150, Share::Whole),
-                Term::new(150, Share::Psi0),
-            )
+            Row {
+                upper: Factor::from_hundredths(135).scaled(85),
+                lower: Factor::ONE,
+                leading: Some(Term::new(150, Share::Whole)),
+                accompanying: Term::new(150, Share::Psi0),
+            }
         } else {
-            Row::unled(
-                Factor::from_hundredths(135),
-                Factor::ONE,
-                Term::new(150, Share::Psi0),
-            )
+            Row {
+                upper: Factor::from_hundredths(135),
+                lower: Factor::ONE,
+                leading: None,
+                accompanying: Term::new(150, Share::Psi0),
+            }
         }
     }
 }

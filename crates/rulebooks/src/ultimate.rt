@@ -2,23 +2,23 @@
 ghost use Rattle.rulebooks.specs.Table.{equ, str, geo};
 ghost use Rattle.std.proofs.Common.{rules};
 
-use crate::constant::{Forms, PersistentSituation};
 use crate::row::{Row, Share, Term};
 use crate::standard::Expression;
 use basis::factor::Factor;
+use basis::situation::Situation;
 
 // 6.10 with Table A1.2(A)
 #[derive(Clone, Copy)]
 pub struct Equ;
 
 impl Expression for Equ {
-    type When = PersistentSituation;
+    const SITUATION: Situation = Situation::Persistent;
 
-    type Count = Forms<1>;
+    const FORMS: u8 = 1;
 
-    const SITUATION: PersistentSituation = PersistentSituation;
+    ghost SITUATION = { equ.situation };
 
-    const FORMS: Forms<1> = Forms;
+    ghost FORMS = { equ.forms };
 
     ghost book = { equ };
 
@@ -26,33 +26,19 @@ impl Expression for Equ {
 
     ghost counted = { Prim.search rules };
 
-    ghost some = { Prim.search rules };
-
-    ghost few = { Prim.search rules };
-
-    ghost permanent = { Prim.search rules };
-
-    ghost variable = { Prim.search rules };
-
-    ghost uppers = { Prim.search rules };
-
-    ghost prestresses = { Prim.search rules };
-
-    ghost leadings = { Prim.search rules };
-
-    ghost past = { Prim.search rules };
+    ghost laws = { Prim.search rules };
 
     fn splits() -> bool {
         true
     }
 
     fn row(_form: u8) -> Row {
-        Row::led(
-            Factor::from_hundredths(110),
-            Factor::from_hundredths(90),
-            Term::new(150, Share::Whole),
-            Term::new(150, Share::Psi0),
-        )
+        Row {
+            upper: Factor::from_hundredths(110),
+            lower: Factor::from_hundredths(90),
+            leading: Some(Term::new(150, Share::Whole)),
+            accompanying: Term::new(150, Share::Psi0),
+        }
     }
 }
 
@@ -61,13 +47,13 @@ impl Expression for Equ {
 pub struct Str;
 
 impl Expression for Str {
-    type When = PersistentSituation;
+    const SITUATION: Situation = Situation::Persistent;
 
-    type Count = Forms<1>;
+    const FORMS: u8 = 1;
 
-    const SITUATION: PersistentSituation = PersistentSituation;
+    ghost SITUATION = { str.situation };
 
-    const FORMS: Forms<1> = Forms;
+    ghost FORMS = { str.forms };
 
     ghost book = { str };
 
@@ -75,33 +61,19 @@ impl Expression for Str {
 
     ghost counted = { Prim.search rules };
 
-    ghost some = { Prim.search rules };
-
-    ghost few = { Prim.search rules };
-
-    ghost permanent = { Prim.search rules };
-
-    ghost variable = { Prim.search rules };
-
-    ghost uppers = { Prim.search rules };
-
-    ghost prestresses = { Prim.search rules };
-
-    ghost leadings = { Prim.search rules };
-
-    ghost past = { Prim.search rules };
+    ghost laws = { Prim.search rules };
 
     fn splits() -> bool {
         false
     }
 
     fn row(_form: u8) -> Row {
-        Row::led(
-            Factor::from_hundredths(135),
-            Factor::ONE,
-            Term::new(150, Share::Whole),
-            Term::new(150, Share::Psi0),
-        )
+        Row {
+            upper: Factor::from_hundredths(135),
+            lower: Factor::ONE,
+            leading: Some(Term::new(150, Share::Whole)),
+            accompanying: Term::new(150, Share::Psi0),
+        }
     }
 }
 
@@ -110,13 +82,13 @@ impl Expression for Str {
 pub struct Geo;
 
 impl Expression for Geo {
-    type When = PersistentSituation;
+    const SITUATION: Situation = Situation::Persistent;
 
-    type Count = Forms<1>;
+    const FORMS: u8 = 1;
 
-    const SITUATION: PersistentSituation = PersistentSituation;
+    ghost SITUATION = { geo.situation };
 
-    const FORMS: Forms<1> = Forms;
+    ghost FORMS = { geo.forms };
 
     ghost book = { geo };
 
@@ -124,32 +96,18 @@ impl Expression for Geo {
 
     ghost counted = { Prim.search rules };
 
-    ghost some = { Prim.search rules };
-
-    ghost few = { Prim.search rules };
-
-    ghost permanent = { Prim.search rules };
-
-    ghost variable = { Prim.search rules };
-
-    ghost uppers = { Prim.search rules };
-
-    ghost prestresses = { Prim.search rules };
-
-    ghost leadings = { Prim.search rules };
-
-    ghost past = { Prim.search rules };
+    ghost laws = { Prim.search rules };
 
     fn splits() -> bool {
         false
     }
 
     fn row(_form: u8) -> Row {
-        Row::led(
-            Factor::ONE,
-            Factor::ONE,
-            Term::new(130, Share::Whole),
-            Term::new(130, Share::Psi0),
-        )
+        Row {
+            upper: Factor::ONE,
+            lower: Factor::ONE,
+            leading: Some(Term::new(130, Share::Whole)),
+            accompanying: Term::new(130, Share::Psi0),
+        }
     }
 }

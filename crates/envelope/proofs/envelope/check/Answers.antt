@@ -4,7 +4,7 @@ use Rattle.basis.specs.Vocabulary.{event_kind}
 use Rattle.rulebooks.specs.Books.{Book}
 use Rattle.sheet.specs.Content.{content}
 use Rattle.envelope.specs.Answers.{event_at_hand}
-use Rattle.envelope.proofs.Ground.{sound_of, laws_of}
+use Rattle.envelope.proofs.Ground.{sound_of}
 use Rattle.envelope.proofs.Promised.{answer_10, answer_11, answer_12, answer_13}
 use Rattle.envelope.proofs.envelope.check.Goals as goal
 
@@ -13,10 +13,9 @@ returns-then-effects-parts g c =
     let met = g.met.E.Effect in
     let sheet = c.args.sheet.now in
     let b : Book = g.R.Rulebook.meaning c.args.book.now in
-    let law = g.met.R.Rulebook in
     let es = c.args.effects.now in
     let so = sound_of _ (content sheet).actions sheet.limited sheet.formed in
-    let bl = laws_of b (law.some c.args.book.now) (law.permanent c.args.book.now) (law.variable c.args.book.now) (law.uppers c.args.book.now) (law.prestresses c.args.book.now) (law.leadings c.args.book.now) in
+    let bl = g.met.R.Rulebook.laws c.args.book.now in
     answer_10 met.closed met.laws (content sheet) b es so bl c.args.room (λ e. c.if-effects-parts.true (sym (length-map es g.E.Effect.components) ∙ e ∙ sym c.parts.ensures))
 
 pub returns-then-room-lt-STRIP : goal.returns-then-room-lt-STRIP
@@ -24,10 +23,9 @@ returns-then-room-lt-STRIP g c =
     let met = g.met.E.Effect in
     let sheet = c.args.sheet.now in
     let b : Book = g.R.Rulebook.meaning c.args.book.now in
-    let law = g.met.R.Rulebook in
     let es = c.args.effects.now in
     let so = sound_of _ (content sheet).actions sheet.limited sheet.formed in
-    let bl = laws_of b (law.some c.args.book.now) (law.permanent c.args.book.now) (law.variable c.args.book.now) (law.uppers c.args.book.now) (law.prestresses c.args.book.now) (law.leadings c.args.book.now) in
+    let bl = g.met.R.Rulebook.laws c.args.book.now in
     answer_11 met.closed met.laws (content sheet) b es so bl c.args.room (length-map es g.E.Effect.components ∙ c.if-effects-parts.false ∙ c.parts.ensures) c.if-room-lt-STRIP.true
 
 pub returns-in-Some : goal.returns-in-Some
@@ -35,10 +33,9 @@ returns-in-Some g c =
     let met = g.met.E.Effect in
     let sheet = c.args.sheet.now in
     let b : Book = g.R.Rulebook.meaning c.args.book.now in
-    let law = g.met.R.Rulebook in
     let es = c.args.effects.now in
     let so = sound_of _ (content sheet).actions sheet.limited sheet.formed in
-    let bl = laws_of b (law.some c.args.book.now) (law.permanent c.args.book.now) (law.variable c.args.book.now) (law.uppers c.args.book.now) (law.prestresses c.args.book.now) (law.leadings c.args.book.now) in
+    let bl = g.met.R.Rulebook.laws c.args.book.now in
     answer_12 met.closed met.laws (content sheet) b es so bl c.args.room c.in-Some.part (length-map es g.E.Effect.components ∙ c.if-effects-parts.false ∙ c.parts.ensures) c.if-room-lt-STRIP.false (sym c.in-Some.ensures)
 
 pub returns-then-not-is_at_hand : goal.returns-then-not-is_at_hand
@@ -46,10 +43,9 @@ returns-then-not-is_at_hand g c =
     let met = g.met.E.Effect in
     let sheet = c.args.sheet.now in
     let b : Book = g.R.Rulebook.meaning c.args.book.now in
-    let law = g.met.R.Rulebook in
     let es = c.args.effects.now in
     let so = sound_of _ (content sheet).actions sheet.limited sheet.formed in
-    let bl = laws_of b (law.some c.args.book.now) (law.permanent c.args.book.now) (law.variable c.args.book.now) (law.uppers c.args.book.now) (law.prestresses c.args.book.now) (law.leadings c.args.book.now) in
+    let bl = g.met.R.Rulebook.laws c.args.book.now in
     answer_13 met.closed met.laws (content sheet) b es so bl c.args.room (length-map es g.E.Effect.components ∙ c.if-effects-parts.false ∙ c.parts.ensures) c.if-room-lt-STRIP.false (sym c.in_default.ensures) (sym (c.is_at_hand.ensures ∙ ap (λ k. event_at_hand k (content sheet)) (c.event_kind.ensures ∙ ap event_kind c.situation_of.ensures.value)) ∙ c.if-not-is_at_hand.true)
 
 pub returns : goal.returns

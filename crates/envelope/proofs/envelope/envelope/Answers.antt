@@ -5,7 +5,7 @@ use Rattle.sheet.specs.declared.plain.Sheet.{Sheet}
 use Rattle.sheet.specs.Content.{content}
 use Rattle.envelope.specs.Answers.{reply_of, found}
 use Rattle.envelope.specs.Promise.{WholePromise}
-use Rattle.envelope.proofs.Ground.{sound_of, laws_of}
+use Rattle.envelope.proofs.Ground.{sound_of}
 use Rattle.envelope.proofs.Kept.{run_law, promised_refusal, promised_answer, supplied_so}
 use Rattle.envelope.proofs.envelope.envelope.Goals as goal
 
@@ -15,10 +15,9 @@ returns-in_err-check g c =
     let e = g.E.Effect in
     let sheet = c.sheet-sheet.result.now in
     let b : Book = g.R.Rulebook.meaning c.args.book.now in
-    let law = g.met.R.Rulebook in
     let es = c.args.effects.now in
     let so = sound_of _ (content sheet).actions sheet.limited sheet.formed in
-    let bl = laws_of b (law.some c.args.book.now) (law.permanent c.args.book.now) (law.variable c.args.book.now) (law.uppers c.args.book.now) (law.prestresses c.args.book.now) (law.leadings c.args.book.now) in
+    let bl = g.met.R.Rulebook.laws c.args.book.now in
     let p = err_from_is_err_and c.from_residual.result c.from_residual.ensures.1 in
     let q = c.in_err-check.field-0.0 in
     let strip = c.args.strip.now in
@@ -34,10 +33,9 @@ report-requires g c =
     let e = g.E.Effect in
     let sheet = c.sheet-sheet.result.now in
     let b : Book = g.R.Rulebook.meaning c.args.book.now in
-    let law = g.met.R.Rulebook in
     let es = c.args.effects.now in
     let so = sound_of _ (content sheet).actions sheet.limited sheet.formed in
-    let bl = laws_of b (law.some c.args.book.now) (law.permanent c.args.book.now) (law.variable c.args.book.now) (law.uppers c.args.book.now) (law.prestresses c.args.book.now) (law.leadings c.args.book.now) in
+    let bl = g.met.R.Rulebook.laws c.args.book.now in
     let a = c.in_ok-check.ensures in
     record { supplied = supplied_so met.closed met.laws b bl (content sheet) es so _ a; hand = a.hand; long = a.long }
 
@@ -47,10 +45,9 @@ returns g c =
     let e = g.E.Effect in
     let sheet = c.sheet-sheet.result.now in
     let b : Book = g.R.Rulebook.meaning c.args.book.now in
-    let law = g.met.R.Rulebook in
     let es = c.args.effects.now in
     let so = sound_of _ (content sheet).actions sheet.limited sheet.formed in
-    let bl = laws_of b (law.some c.args.book.now) (law.permanent c.args.book.now) (law.variable c.args.book.now) (law.uppers c.args.book.now) (law.prestresses c.args.book.now) (law.leadings c.args.book.now) in
+    let bl = g.met.R.Rulebook.laws c.args.book.now in
     let before = c.args.strip.now in
     let after = c.report.new.strip in
     let x = c.report.result.effect in

@@ -4,7 +4,7 @@ use Rattle.sheet.specs.Content.{Content, content}
 use Rattle.sheet.specs.Histories.{issued}
 use Rattle.envelope.specs.Answers.{answer}
 use Rattle.envelope.specs.Promise.{OfFound}
-use Rattle.envelope.proofs.Promised.{Sound, formed_all, as_reported, BookLaws, nothing_outranks, breaks_no_rule, not_sunk}
+use Rattle.envelope.proofs.Promised.{Sound, formed_all, as_reported, nothing_outranks, breaks_no_rule, not_sunk}
 use Rattle.envelope.proofs.Histories.{grows_extends}
 use Rattle.envelope.proofs.promise.answer_keeps_the_promise.Goals as goal
 
@@ -13,17 +13,7 @@ returns g c =
     let s : Content = content c.args.sheet.now.sheet in
     let sheet = c.args.sheet.now.sheet in
     let b : Book = g.R.Rulebook.meaning c.args.book.now in
-    let law = g.met.R.Rulebook in
-    let bl : BookLaws b = record {
-      some = law.some c.args.book.now;
-      forms = λ i. record {
-        permanent = law.permanent c.args.book.now i;
-        variable = law.variable c.args.book.now i;
-        upper = law.uppers c.args.book.now i;
-        prestress = law.prestresses c.args.book.now i;
-        leading = law.leadings c.args.book.now i;
-      };
-    } in
+    let bl = g.met.R.Rulebook.laws c.args.book.now in
     let es = c.args.effects.now in
     let closed = g.met.E.Effect.closed in
     let laws = g.met.E.Effect.laws in

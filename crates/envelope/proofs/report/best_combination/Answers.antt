@@ -8,7 +8,7 @@ use Rattle.envelope.specs.Reported.{with_chosen}
 use Rattle.envelope.specs.Layout.{both_halves}
 use Rattle.envelope.specs.Forms.{BestAmong}
 use Rattle.envelope.proofs.Setting.{Setting}
-use Rattle.envelope.proofs.Ground.{sound_of, laws_of, grounded}
+use Rattle.envelope.proofs.Ground.{sound_of, grounded}
 use Rattle.envelope.proofs.Forms.{Found, found_first, found_keeps, found_takes, rest_same}
 use Rattle.envelope.proofs.report.best_combination.Given as given
 use Rattle.envelope.proofs.report.best_combination.Goals as goal
@@ -19,9 +19,8 @@ set_of : (g : given.Over) (sheet : Sheet) (book : g.row.R.Denot) (es : List g.ro
     → Setting g.met.E.Effect.closed g.met.E.Effect.laws (content sheet) (g.R.Rulebook.meaning book) (map g.E.Effect.components es)
 set_of g sheet book es supplied =
     let b : Book = g.R.Rulebook.meaning book in
-    let law = g.met.R.Rulebook in
     grounded g.met.E.Effect.closed g.met.E.Effect.laws (content sheet) b es (sound_of _ (content sheet).actions sheet.limited sheet.formed)
-    (laws_of b (law.some book) (law.permanent book) (law.variable book) (law.uppers book) (law.prestresses book) (law.leadings book)) supplied
+    (g.met.R.Rulebook.laws book) supplied
 
 pub best_in_form-best-requires : goal.best_in_form-best-requires
 best_in_form-best-requires g c = record {
@@ -29,7 +28,7 @@ best_in_form-best-requires g c = record {
   supplied = c.requires.supplied;
   full = c.requires.full;
   placed = c.requires.placed;
-  one = omega (arith, g.met.R.Rulebook.some c.args.book.now);
+  one = omega (arith, (g.met.R.Rulebook.laws c.args.book.now).some);
   hand = c.requires.hand;
   long = c.requires.long;
 }
@@ -92,7 +91,7 @@ returns g c =
     let xss = map e.components c.args.effects.now in
     let inv = c.loop-form.invariant in
     let begun = c.best_in_form-best.new.strip in
-    let some = g.met.R.Rulebook.some c.args.book.now in
+    let some = (g.met.R.Rulebook.laws c.args.book.now).some in
     let ended : c.loop-form.form ≡ b.forms = omega (arith, c.forms_of-form-end.ensures, c.loop-form-test.false, c.loop-form.auto.form-end (omega (arith, c.forms_of-form-end.ensures, some))) in
     record {
       best = subst (λ i. BestAmong e.count e.reaches s b xss (λ f. f < i) (with_chosen e.count e.reaches s b xss c.loop-form.best.form c.loop-form.best.leader c.loop-form.best.set)) ended inv.0;

@@ -8,7 +8,7 @@ use Rattle.sheet.proofs.Laws.{sound_from}
 use Rattle.envelope.specs.Supplied.{Supplied}
 use Rattle.envelope.proofs.Setting.{Setting}
 use Rattle.envelope.proofs.Numbering.{places_length}
-use Rattle.envelope.proofs.Ground.{sound_of, laws_of, grounded}
+use Rattle.envelope.proofs.Ground.{sound_of, grounded}
 use Rattle.envelope.proofs.InForm.{form_searchable, form_place, form_set, form_best}
 use Rattle.envelope.proofs.report.best_in_form.Given as given
 use Rattle.envelope.proofs.report.best_in_form.Goals as goal
@@ -18,9 +18,8 @@ set_of : (g : given.Over) (sheet : Sheet) (book : g.row.R.Denot) (es : List g.ro
     → Setting g.met.E.Effect.closed g.met.E.Effect.laws (content sheet) (g.R.Rulebook.meaning book) (map g.E.Effect.components es)
 set_of g sheet book es supplied =
     let b : Book = g.R.Rulebook.meaning book in
-    let law = g.met.R.Rulebook in
     grounded g.met.E.Effect.closed g.met.E.Effect.laws (content sheet) b es (sound_of _ (content sheet).actions sheet.limited sheet.formed)
-    (laws_of b (law.some book) (law.permanent book) (law.variable book) (law.uppers book) (law.prestresses book) (law.leadings book)) supplied
+    (g.met.R.Rulebook.laws book) supplied
 
 pub fill_strip-requires : goal.fill_strip-requires
 fill_strip-requires g c = record {

@@ -8,7 +8,7 @@ use Rattle.envelope.specs.Choices.{event_of}
 use Rattle.envelope.specs.Supplied.{Supplied}
 use Rattle.envelope.proofs.Setting.{Setting}
 use Rattle.envelope.proofs.Numbering.{places_length}
-use Rattle.envelope.proofs.Ground.{sound_of, laws_of, grounded}
+use Rattle.envelope.proofs.Ground.{sound_of, grounded}
 use Rattle.envelope.proofs.Recorded.{leader_fits, event_fits, recorded, reported_so, strip_left}
 use Rattle.envelope.proofs.report.report.Given as given
 use Rattle.envelope.proofs.Slots.{laid_here}
@@ -19,9 +19,8 @@ set_of : (g : given.Over) (sheet : Sheet) (book : g.row.R.Denot) (es : List g.ro
     → Setting g.met.E.Effect.closed g.met.E.Effect.laws (content sheet) (g.R.Rulebook.meaning book) (map g.E.Effect.components es)
 set_of g sheet book es supplied =
     let b : Book = g.R.Rulebook.meaning book in
-    let law = g.met.R.Rulebook in
     grounded g.met.E.Effect.closed g.met.E.Effect.laws (content sheet) b es (sound_of _ (content sheet).actions sheet.limited sheet.formed)
-    (laws_of b (law.some book) (law.permanent book) (law.variable book) (law.uppers book) (law.prestresses book) (law.leadings book)) supplied
+    (g.met.R.Rulebook.laws book) supplied
 
 pub chosen_event-event-requires : goal.chosen_event-event-requires
 chosen_event-event-requires g c = record {

@@ -1,5 +1,6 @@
 // Kinds of action, and how the parts of one action act.
 ghost use Rattle.std.specs.Prelude.{◌≡◌};
+ghost use Rattle.std.specs.Result.{result_ok};
 ghost use Rattle.basis.specs.Vocabulary.{kind_of, kind_number, is_variable, spread_of, spread_number, allows as is_allowed};
 
 #[derive(Clone, Copy, PartialEq, Eq, Debug)]
@@ -11,6 +12,10 @@ pub enum Kind {
     Seismic,
 }
 
+// A number that stands for no kind of action.
+#[derive(Clone, Copy, PartialEq, Eq, Debug)]
+pub struct UnknownKind;
+
 // The parts of a fixed action act together, those of a free one in any choice, those of an alternative one at a time.
 #[derive(Clone, Copy, PartialEq, Eq, Debug)]
 pub enum Spread {
@@ -19,27 +24,37 @@ pub enum Spread {
     Alternative,
 }
 
-impl Kind {
-    // The kind of a number from 1 to 5.
-    pub fn from_number(number: u8) -> Option<Kind>
-        ensures { result ≡ kind_of number }
-    {
+// A number that stands for no spread.
+#[derive(Clone, Copy, PartialEq, Eq, Debug)]
+pub struct UnknownSpread;
+
+// The kind of a number from 1 to 5.
+impl TryFrom<u8> for Kind {
+    type Error = UnknownKind;
+
+    ghost try_from_gives = { λ number kind. result_ok kind ≡ kind_of number };
+
+    fn try_from(number: u8) -> Result<Kind, UnknownKind> {
         match number {
-            1 => Some(Kind::Permanent),
-            2 => Some(Kind::Prestress),
-            3 => Some(Kind::Variable),
-            4 => Some(Kind::Accidental),
-            5 => Some(Kind::Seismic),
-            _ => None,
+            1 => Ok(Kind::Permanent),
+            2 => Ok(Kind::Prestress),
+            3 => Ok(Kind::Variable),
+            4 => Ok(Kind::Accidental),
+            5 => Ok(Kind::Seismic),
+            _ => Err(UnknownKind),
         }
     }
+}
 
-    pub fn number(self) -> u8
-        ensures { result ≡ kind_number self }
-    {
-        self as u8
+impl From<Kind> for u8 {
+    ghost from_gives = { λ kind number. number ≡ kind_number kind };
+
+    fn from(kind: Kind) -> u8 {
+        kind as u8
     }
+}
 
+impl Kind {
     pub fn is_variable(self) -> bool
         ensures { result ≡ is_variable self }
     {
@@ -58,22 +73,26 @@ impl Kind {
     }
 }
 
-impl Spread {
-    // The spread of a number from 1 to 3.
-    pub fn from_number(number: u8) -> Option<Spread>
-        ensures { result ≡ spread_of number }
-    {
+// The spread of a number from 1 to 3.
+impl TryFrom<u8> for Spread {
+    type Error = UnknownSpread;
+
+    ghost try_from_gives = { λ number spread. result_ok spread ≡ spread_of number };
+
+    fn try_from(number: u8) -> Result<Spread, UnknownSpread> {
         match number {
-            1 => Some(Spread::Fixed),
-            2 => Some(Spread::Free),
-            3 => Some(Spread::Alternative),
-            _ => None,
+            1 => Ok(Spread::Fixed),
+            2 => Ok(Spread::Free),
+            3 => Ok(Spread::Alternative),
+            _ => Err(UnknownSpread),
         }
     }
+}
 
-    pub fn number(self) -> u8
-        ensures { result ≡ spread_number self }
-    {
-        self as u8
+impl From<Spread> for u8 {
+    ghost from_gives = { λ spread number. number ≡ spread_number spread };
+
+    fn from(spread: Spread) -> u8 {
+        spread as u8
     }
 }

@@ -1,5 +1,6 @@
 // The categories of variable actions.
 ghost use Rattle.std.specs.Prelude.{◌≡◌, Some};
+ghost use Rattle.std.specs.Result.{result_ok};
 ghost use Rattle.basis.specs.Vocabulary.{category_of};
 
 #[derive(Clone, Copy, PartialEq, Eq, Debug)]
@@ -28,33 +29,41 @@ pub enum Category {
     Temperature,
 }
 
-impl Category {
-    // The category that a letter stands for; a small letter stands for none.
-    pub fn from_letter(letter: char) -> Option<Category>
-        ensures { result ≡ category_of letter }
-    {
+// A letter that stands for no category, as any small letter.
+#[derive(Clone, Copy, PartialEq, Eq, Debug)]
+pub struct UnknownCategory;
+
+// The category that a letter stands for.
+impl TryFrom<char> for Category {
+    type Error = UnknownCategory;
+
+    ghost try_from_gives = { λ letter category. result_ok category ≡ category_of letter };
+
+    fn try_from(letter: char) -> Result<Category, UnknownCategory> {
         match letter {
-            'A' => Some(Category::A),
-            'B' => Some(Category::B),
-            'C' => Some(Category::C),
-            'D' => Some(Category::D),
-            'E' => Some(Category::E),
-            'F' => Some(Category::F),
-            'G' => Some(Category::G),
-            'H' => Some(Category::H),
-            'S' => Some(Category::Snow),
-            'M' => Some(Category::HighSnow),
-            'W' => Some(Category::Wind),
-            'T' => Some(Category::Temperature),
-            _ => None,
+            'A' => Ok(Category::A),
+            'B' => Ok(Category::B),
+            'C' => Ok(Category::C),
+            'D' => Ok(Category::D),
+            'E' => Ok(Category::E),
+            'F' => Ok(Category::F),
+            'G' => Ok(Category::G),
+            'H' => Ok(Category::H),
+            'S' => Ok(Category::Snow),
+            'M' => Ok(Category::HighSnow),
+            'W' => Ok(Category::Wind),
+            'T' => Ok(Category::Temperature),
+            _ => Err(UnknownCategory),
         }
     }
+}
 
-    // The letter that stands for the category.
-    pub fn letter(self) -> char
-        ensures { category_of result ≡ Some self }
-    {
-        match self {
+// The letter that stands for the category.
+impl From<Category> for char {
+    ghost from_gives = { λ category letter. category_of letter ≡ Some category };
+
+    fn from(category: Category) -> char {
+        match category {
             Category::A => 'A',
             Category::B => 'B',
             Category::C => 'C',

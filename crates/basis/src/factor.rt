@@ -59,10 +59,8 @@ impl Factor {
     pub fn at_least(self, least: Factor) -> Factor
         ensures { result.units ≡ max least.units self.units }
     {
-        if self.units < least.units {
-            least
-        } else {
-            self
+        Factor {
+            units: self.units.max(least.units),
         }
     }
 

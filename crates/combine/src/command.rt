@@ -43,8 +43,18 @@ pub enum Command<'a> {
 // Why a line is not played: a word, if one is at fault, and what is wrong with it.
 #[derive(Clone, Copy)]
 pub struct Fault<'a> {
-    word: &'a str,
+    word: Option<&'a str>,
     problem: &'static str,
+}
+
+// An action is meant by its number where the word is one.
+impl<'a> From<&'a str> for Named<'a> {
+    fn from(word: &'a str) -> Named<'a> {
+        match word.parse() {
+            Ok(number) => Named::Number(number),
+            Err(_) => Named::Name(word),
+        }
+    }
 }
 
 impl<'a> From<AllocError> for Fault<'a> {
@@ -61,30 +71,30 @@ impl<'a, T: Drop> From<AllocFailed<T>> for Fault<'a> {
 
 impl fmt::Display for Fault<'_> {
     fn fmt<W: fmt::Write>(&self, f: &mut fmt::Formatter<W>) -> fmt::Result {
-        let word = self.word;
-        let problem = self.problem;
-        if word.is_empty() {
-            write!(f, "{problem}")
-        } else {
-            write!(f, "'{word}' {problem}")
+        if let Some(word) = self.word {
+            write!(f, "'{word}' ")?;
         }
+        f.write_str(self.problem)
     }
 }
 
 pub(crate) fn fault_of<'a>(problem: &'static str) -> Fault<'a> {
-    Fault { word: "", problem }
+    Fault {
+        word: None,
+        problem,
+    }
 }
 
 pub(crate) fn fault_at<'a>(word: &'a str, problem: &'static str) -> Fault<'a> {
-    Fault { word, problem }
+    Fault {
+        word: Some(word),
+        problem,
+    }
 }
 
 // The part of a line before a comment.
 fn without_comment(line: &str) -> &str {
-    match line.split_once('#') {
-        Some((before, _)) => before,
-        None => line,
-    }
+    line.split_once('#').map_or(line, |(before, _)| before)
 }
 
 // The words of a line before a comment, with one blank between them.
@@ -100,56 +110,44 @@ pub(crate) fn tidy(heap: Global, line: &str) -> Result<String, AllocError> {
 }
 
 // The only character of a word.
-fn single_letter(word: &str) -> Option<char> {
+pub(crate) fn single_letter(word: &str) -> Option<char> {
     let mut letters = word.chars();
     let first = letters.next()?;
-    match letters.next() {
-        None => Some(first),
-        Some(_) => None,
-    }
-}
-
-fn action_named(word: &str) -> Named<'_> {
-    match word.parse::<usize>() {
-        Ok(number) => Named::Number(number),
-        Err(_) => Named::Name(word),
-    }
+    letters.next().is_none().then_some(first)
 }
 
 fn word_or<'a>(words: &[&'a str], at: usize, default: &'a str) -> &'a str {
-    match words.get(at) {
-        Some(word) => *word,
-        None => default,
-    }
+    words.get(at).copied().unwrap_or(default)
 }
+
+const ENTER: &str = "write: enter NAME KIND [CATEGORY [SPREAD [PARTS]]]";
 
 // enter NAME KIND [CATEGORY [SPREAD [PARTS]]]
 fn parse_enter<'a>(words: &[&'a str]) -> Result<Edit<'a>, Fault<'a>> {
-    if words.len() < 2 || words.len() > 5 {
-        return Err(fault_of("write: enter NAME KIND [CATEGORY [SPREAD [PARTS]]]"));
+    let [name, kind, rest @ ..] = words else {
+        return Err(fault_of(ENTER));
+    };
+    if rest.len() > 3 {
+        return Err(fault_of(ENTER));
     }
-    let name = words[0];
-    if let Named::Number(_) = action_named(name) {
+    if let Named::Number(_) = Named::from(*name) {
         return Err(fault_at(name, "is a number and cannot be a name"));
     }
-    let Some(kind) = kind_number(words[1]) else {
-        return Err(fault_at(
-            words[1],
-            "is no kind (permanent, prestress, variable, accidental, seismic, or a number)",
-        ));
-    };
-    let category = word_or(words, 2, "-");
-    let Some(letter) = single_letter(category) else {
-        return Err(fault_at(category, "is no category letter and not '-'"));
-    };
-    let word = word_or(words, 3, "fixed");
-    let Some(spread) = spread_number(word) else {
-        return Err(fault_at(word, "is no spread (fixed, free, alternative, or a number)"));
-    };
-    let word = word_or(words, 4, "1");
-    let Ok(parts) = word.parse::<u8>() else {
-        return Err(fault_at(word, "is no number of parts"));
-    };
+    let kind = kind_number(kind).ok_or(fault_at(
+        kind,
+        "is no kind (permanent, prestress, variable, accidental, seismic, or a number)",
+    ))?;
+    let word = word_or(rest, 0, "-");
+    let letter = single_letter(word).ok_or(fault_at(word, "is no category letter and not '-'"))?;
+    let word = word_or(rest, 1, "fixed");
+    let spread = spread_number(word).ok_or(fault_at(
+        word,
+        "is no spread (fixed, free, alternative, or a number)",
+    ))?;
+    let word = word_or(rest, 2, "1");
+    let parts = word
+        .parse()
+        .map_err(|_| fault_at(word, "is no number of parts"))?;
     Ok(Edit::Enter(Entry {
         name,
         kind,
@@ -161,10 +159,10 @@ fn parse_enter<'a>(words: &[&'a str]) -> Result<Edit<'a>, Fault<'a>> {
 
 // A call with the name or number of one action.
 fn parse_one<'a>(words: &[&'a str], usage: &'static str) -> Result<Named<'a>, Fault<'a>> {
-    if words.len() != 1 {
-        return Err(fault_of(usage));
+    match words {
+        [action] => Ok(Named::from(*action)),
+        _ => Err(fault_of(usage)),
     }
-    Ok(action_named(words[0]))
 }
 
 // A call with the names or numbers of two actions.
@@ -172,21 +170,19 @@ fn parse_two<'a>(
     words: &[&'a str],
     usage: &'static str,
 ) -> Result<(Named<'a>, Named<'a>), Fault<'a>> {
-    if words.len() != 2 {
-        return Err(fault_of(usage));
+    match words {
+        [a, b] => Ok((Named::from(*a), Named::from(*b))),
+        _ => Err(fault_of(usage)),
     }
-    Ok((action_named(words[0]), action_named(words[1])))
 }
 
 // recast ACTION CATEGORY
 fn parse_recast<'a>(words: &[&'a str]) -> Result<Edit<'a>, Fault<'a>> {
-    if words.len() != 2 {
+    let [action, category] = words else {
         return Err(fault_of("write: recast ACTION CATEGORY"));
-    }
-    let Some(letter) = single_letter(words[1]) else {
-        return Err(fault_at(words[1], "is no category letter"));
     };
-    Ok(Edit::Recast(action_named(words[0]), letter))
+    let letter = single_letter(category).ok_or(fault_at(category, "is no category letter"))?;
+    Ok(Edit::Recast(Named::from(*action), letter))
 }
 
 // Issue or reopen, with no words after it.

@@ -35,18 +35,13 @@ fn play_line(
 ) -> io::Result<Session> {
     let call = tidy(heap, line)?;
     let call = call.as_str();
-    match parse(heap, call) {
-        Ok(None) => Ok(session),
-        Ok(Some(command)) => {
-            let (session, outcome) = session.play(heap, command);
-            print_call(rt, place, call, outcome, &session)?;
-            Ok(session)
-        }
-        Err(fault) => {
-            print_call(rt, place, call, Err(fault), &session)?;
-            Ok(session)
-        }
-    }
+    let (session, outcome) = match parse(heap, call) {
+        Ok(None) => return Ok(session),
+        Ok(Some(command)) => session.play(heap, command),
+        Err(fault) => (session, Err(fault)),
+    };
+    print_call(rt, place, call, outcome, &session)?;
+    Ok(session)
 }
 
 fn play_text(rt: &impl Print, heap: Global, text: &str) -> io::Result<()> {

@@ -27,15 +27,12 @@ impl fmt::Display for PartRange {
 
 // The parts of the action of a number.
 fn parts_of(actions: &[Action], number: usize) -> PartRange {
-    let mut first: usize = 0;
-    for (i, action) in actions.iter().enumerate() {
-        let count = usize::from(action.parts);
-        if i == number {
-            return PartRange { first, count };
-        }
-        first = first.saturating_add(count);
+    let parts = |action: &Action| usize::from(action.parts);
+    let before = actions.iter().take(number).map(parts);
+    PartRange {
+        first: before.fold(0, usize::saturating_add),
+        count: actions.get(number).map_or(0, parts),
     }
-    PartRange { first, count: 0 }
 }
 
 // A line for a call: its place in the text, the call, and what came of it.
@@ -54,7 +51,7 @@ pub(crate) fn print_call(
         }
         Ok(Outcome::Done) => println!(rt; "done"),
         Ok(Outcome::Refused(refusal, reason)) => {
-            let number = refusal.number();
+            let number = u8::from(refusal);
             println!(rt; "refused, {number}: {reason}")
         }
         Ok(Outcome::Shown(rules)) => {
@@ -66,10 +63,7 @@ pub(crate) fn print_call(
 }
 
 fn category_letter(category: Option<Category>) -> char {
-    match category {
-        Some(category) => category.letter(),
-        None => '-',
-    }
+    category.map_or('-', char::from)
 }
 
 fn print_action(
@@ -89,8 +83,8 @@ fn print_action(
 // The excluded pairs of action `a` with the actions after it.
 fn print_exclusions(rt: &impl Print, session: &Session, a: usize) -> io::Result<()> {
     let sheet = session.sheet();
-    for b in 0..sheet.actions().len() {
-        if a < b && sheet.excludes(a, b) {
+    for b in a.saturating_add(1)..sheet.actions().len() {
+        if sheet.excludes(a, b) {
             let first = session.name(a);
             let second = session.name(b);
             println!(rt; "excluded: {first} ({a}) and {second} ({b})")?;

@@ -1,5 +1,5 @@
 // Rulebooks with layers over them: how they are written, and their factors as a table.
-use crate::command::{Fault, fault_at, fault_of};
+use crate::command::{Fault, fault_at, fault_of, single_letter};
 use crate::words::look_up;
 use basis::category::Category;
 use basis::factor::Factor;
@@ -42,19 +42,26 @@ pub struct Rules {
     second: Option<Layer>,
 }
 
-fn parse_book(word: &str) -> Option<Book> {
-    let names = [
-        ("equ", Book::Equ),
-        ("str", Book::Str),
-        ("str-pair", Book::StrPair),
-        ("geo", Book::Geo),
-        ("accidental", Book::Accidental),
-        ("seismic", Book::Seismic),
-        ("characteristic", Book::Characteristic),
-        ("frequent", Book::Frequent),
-        ("quasi-permanent", Book::QuasiPermanent),
-    ];
-    look_up(&names, word)
+impl<'a> TryFrom<&'a str> for Book {
+    type Error = Fault<'a>;
+
+    fn try_from(word: &'a str) -> Result<Book, Fault<'a>> {
+        let names = [
+            ("equ", Book::Equ),
+            ("str", Book::Str),
+            ("str-pair", Book::StrPair),
+            ("geo", Book::Geo),
+            ("accidental", Book::Accidental),
+            ("seismic", Book::Seismic),
+            ("characteristic", Book::Characteristic),
+            ("frequent", Book::Frequent),
+            ("quasi-permanent", Book::QuasiPermanent),
+        ];
+        look_up(&names, word).ok_or(fault_at(
+            word,
+            "is no rulebook (equ, str, str-pair, geo, accidental, seismic, characteristic, frequent, quasi-permanent)",
+        ))
+    }
 }
 
 fn parse_class(word: &str) -> Option<Class> {
@@ -66,51 +73,40 @@ fn parse_class(word: &str) -> Option<Class> {
 
 // The category of a word that is one letter.
 fn parse_category(word: &str) -> Option<Category> {
-    let mut letters = word.chars();
-    let letter = letters.next()?;
-    match letters.next() {
-        None => Category::from_letter(letter),
-        Some(_) => None,
-    }
+    Category::try_from(single_letter(word)?).ok()
 }
 
+// LAYER, as a word and its value
 fn parse_layer<'a>(layer: &'a str, word: &'a str) -> Result<Layer, Fault<'a>> {
     match layer {
-        "class" => match parse_class(word) {
-            Some(class) => Ok(Layer::Class(class)),
-            None => Err(fault_at(word, "is no class factor (90, 100, 110)")),
-        },
-        "strike" => match parse_category(word) {
-            Some(category) => Ok(Layer::Stage(category)),
-            None => Err(fault_at(word, "is no category letter")),
-        },
+        "class" => parse_class(word)
+            .map(Layer::Class)
+            .ok_or(fault_at(word, "is no class factor (90, 100, 110)")),
+        "strike" => parse_category(word)
+            .map(Layer::Stage)
+            .ok_or(fault_at(word, "is no category letter")),
         _ => Err(fault_at(layer, "is no layer (class, strike)")),
     }
 }
 
 // BOOK [LAYER [LAYER]]
 pub(crate) fn parse_rules<'a>(words: &[&'a str]) -> Result<Rules, Fault<'a>> {
-    let count = words.len();
-    if count != 1 && count != 3 && count != 5 {
-        return Err(fault_of(
-            "write: rulebook NAME [LAYER [LAYER]], a layer being class K or strike CATEGORY",
-        ));
-    }
-    let Some(book) = parse_book(words[0]) else {
-        return Err(fault_at(
-            words[0],
-            "is no rulebook (equ, str, str-pair, geo, accidental, seismic, characteristic, frequent, quasi-permanent)",
-        ));
-    };
-    let first = if count >= 3 {
-        Some(parse_layer(words[1], words[2])?)
-    } else {
-        None
-    };
-    let second = if count == 5 {
-        Some(parse_layer(words[3], words[4])?)
-    } else {
-        None
+    let (book, first, second) = match words {
+        [book] => (Book::try_from(*book)?, None, None),
+        [book, layer, word] => {
+            let book = Book::try_from(*book)?;
+            (book, Some(parse_layer(layer, word)?), None)
+        }
+        [book, layer, word, next_layer, next_word] => {
+            let book = Book::try_from(*book)?;
+            let first = parse_layer(layer, word)?;
+            (book, Some(first), Some(parse_layer(next_layer, next_word)?))
+        }
+        _ => {
+            return Err(fault_of(
+                "write: rulebook NAME [LAYER [LAYER]], a layer being class K or strike CATEGORY",
+            ));
+        }
     };
     Ok(Rules {
         book,
@@ -123,32 +119,31 @@ pub(crate) fn parse_rules<'a>(words: &[&'a str]) -> Result<Rules, Fault<'a>> {
 #[derive(Clone, Copy)]
 pub struct Decimal(Factor);
 
-impl fmt::Display for Decimal {
-    fn fmt<W: fmt::Write>(&self, f: &mut fmt::Formatter<W>) -> fmt::Result {
-        let units = self.0.units();
-        let whole = units / 100_000;
-        let rest = units % 100_000;
+impl Decimal {
+    // What stands after the point, and how many places it takes.
+    fn fraction(self) -> (u32, usize) {
+        let rest = self.0.units() % 100_000;
         if rest % 1000 == 0 {
-            let rest = rest / 1000;
-            write!(f, "{whole}.{rest:02}")
+            (rest / 1000, 2)
         } else if rest % 10 == 0 {
-            let rest = rest / 10;
-            write!(f, "{whole}.{rest:04}")
+            (rest / 10, 4)
         } else {
-            write!(f, "{whole}.{rest:05}")
+            (rest, 5)
         }
+    }
+
+    // How many blanks bring it to five places.
+    fn gap(self) -> usize {
+        let (_, places) = self.fraction();
+        5usize.saturating_sub(places)
     }
 }
 
-// The blanks that bring a decimal to five places.
-fn gap(factor: Factor) -> &'static str {
-    let units = factor.units();
-    if units % 1000 == 0 {
-        "   "
-    } else if units % 10 == 0 {
-        " "
-    } else {
-        ""
+impl fmt::Display for Decimal {
+    fn fmt<W: fmt::Write>(&self, f: &mut fmt::Formatter<W>) -> fmt::Result {
+        let whole = self.0.units() / 100_000;
+        let (rest, places) = self.fraction();
+        write!(f, "{whole}.{rest:0places$}")
     }
 }
 
@@ -173,12 +168,14 @@ fn print_category<R: Rulebook>(
     form: u8,
     category: Category,
 ) -> io::Result<()> {
-    let letter = category.letter();
-    let factor = rules.leading(form, category);
-    let leading = Decimal(factor);
-    let gap = gap(factor);
+    let letter = char::from(category);
+    let leading = Decimal(rules.leading(form, category));
+    let gap = leading.gap();
     let accompanying = Decimal(rules.accompanying(form, category));
-    println!(rt; "        {letter}         {leading}{gap}  {accompanying}")
+    println!(rt;
+        "        {letter}         {leading}{:gap$}  {accompanying}",
+        ""
+    )
 }
 
 fn print_form<R: Rulebook>(rt: &impl Print, rules: &R, form: u8) -> io::Result<()> {

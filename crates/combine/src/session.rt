@@ -31,21 +31,15 @@ pub enum Outcome {
 }
 
 fn find_name(names: &[String], name: &str) -> Option<usize> {
-    for (number, known) in names.iter().enumerate() {
-        if known.as_str() == name {
-            return Some(number);
-        }
-    }
-    None
+    names.iter().position(|known| known.as_str() == name)
 }
 
 fn number_of<'a>(names: &[String], action: Named<'a>) -> Result<usize, Fault<'a>> {
     match action {
         Named::Number(number) => Ok(number),
-        Named::Name(name) => match find_name(names, name) {
-            Some(number) => Ok(number),
-            None => Err(fault_at(name, "is the name of no action")),
-        },
+        Named::Name(name) => {
+            find_name(names, name).ok_or(fault_at(name, "is the name of no action"))
+        }
     }
 }
 
@@ -123,10 +117,7 @@ impl Session {
 
     // The name of an action.
     pub(crate) fn name(&self, number: usize) -> &str {
-        match self.names.get(number) {
-            Some(name) => name.as_str(),
-            None => "",
-        }
+        self.names.get(number).map_or("", |name| name.as_str())
     }
 
     // Plays one call; a call that the sheet's state does not take leaves it as it is.
@@ -136,31 +127,23 @@ impl Session {
         command: Command<'a>,
     ) -> (Session, Result<Outcome, Fault<'a>>) {
         let Session { state, mut names } = self;
-        let (state, outcome) = match state {
-            State::Draft(mut draft) => match command {
-                Command::Change(edit) => {
-                    let outcome = change(&mut draft, &mut names, heap, edit);
-                    (State::Draft(draft), outcome)
-                }
-                Command::Issue => (State::Issued(draft.issue()), Ok(Outcome::Done)),
-                Command::Reopen => (
-                    State::Draft(draft),
-                    Err(fault_of("the sheet is a draft already")),
-                ),
-                Command::Show(rules) => (State::Draft(draft), Ok(Outcome::Shown(rules))),
-            },
-            State::Issued(issued) => match command {
-                Command::Change(_) => (
-                    State::Issued(issued),
-                    Err(fault_of("the sheet is issued; reopen it first")),
-                ),
-                Command::Issue => (
-                    State::Issued(issued),
-                    Err(fault_of("the sheet is issued already")),
-                ),
-                Command::Reopen => (State::Draft(issued.reopen()), Ok(Outcome::Done)),
-                Command::Show(rules) => (State::Issued(issued), Ok(Outcome::Shown(rules))),
-            },
+        let (state, outcome) = match (state, command) {
+            (State::Draft(mut draft), Command::Change(edit)) => {
+                let outcome = change(&mut draft, &mut names, heap, edit);
+                (State::Draft(draft), outcome)
+            }
+            (State::Draft(draft), Command::Issue) => {
+                (State::Issued(draft.issue()), Ok(Outcome::Done))
+            }
+            (State::Issued(issued), Command::Reopen) => {
+                (State::Draft(issued.reopen()), Ok(Outcome::Done))
+            }
+            (state, Command::Show(rules)) => (state, Ok(Outcome::Shown(rules))),
+            (state, Command::Change(_)) => {
+                (state, Err(fault_of("the sheet is issued; reopen it first")))
+            }
+            (state, Command::Issue) => (state, Err(fault_of("the sheet is issued already"))),
+            (state, Command::Reopen) => (state, Err(fault_of("the sheet is a draft already"))),
         };
         (Session { state, names }, outcome)
     }

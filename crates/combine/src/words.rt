@@ -5,36 +5,45 @@ use sheet::action::Refusal;
 
 // What a word stands for in a table of words.
 pub(crate) fn look_up<T: Copy>(table: &[(&str, T)], word: &str) -> Option<T> {
-    for (known, value) in table {
-        if *known == word {
-            return Some(*value);
-        }
+    let (_, value) = table.iter().find(|(known, _)| *known == word)?;
+    Some(*value)
+}
+
+// The number of what a word stands for in a table of words, or the number that the word is.
+fn number_of<T: Copy>(table: &[(&str, T)], word: &str) -> Option<u8>
+where
+    u8: From<T>,
+{
+    match look_up(table, word) {
+        Some(value) => Some(u8::from(value)),
+        None => word.parse().ok(),
     }
-    None
 }
 
 // A kind's number, by its word or its number.
 pub(crate) fn kind_number(word: &str) -> Option<u8> {
-    let kinds = [
-        ("permanent", 1),
-        ("prestress", 2),
-        ("variable", 3),
-        ("accidental", 4),
-        ("seismic", 5),
-    ];
-    match look_up(&kinds, word) {
-        Some(number) => Some(number),
-        None => word.parse::<u8>().ok(),
-    }
+    number_of(
+        &[
+            ("permanent", Kind::Permanent),
+            ("prestress", Kind::Prestress),
+            ("variable", Kind::Variable),
+            ("accidental", Kind::Accidental),
+            ("seismic", Kind::Seismic),
+        ],
+        word,
+    )
 }
 
 // A spread's number, by its word or its number.
 pub(crate) fn spread_number(word: &str) -> Option<u8> {
-    let spreads = [("fixed", 1), ("free", 2), ("alternative", 3)];
-    match look_up(&spreads, word) {
-        Some(number) => Some(number),
-        None => word.parse::<u8>().ok(),
-    }
+    number_of(
+        &[
+            ("fixed", Spread::Fixed),
+            ("free", Spread::Free),
+            ("alternative", Spread::Alternative),
+        ],
+        word,
+    )
 }
 
 pub(crate) fn kind_word(kind: Kind) -> &'static str {

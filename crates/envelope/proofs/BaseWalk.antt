@@ -1,7 +1,7 @@
 -- A walk over the actions that adds what those that are not variable add in a form.
-use Rattle.std.proofs.Common.{◌≡◌, ℕ, ◌+◌, ◌*◌, ◌<◌, ◌≤◌, Bool, true, false, cond, List, [], ◌∷◌, ◌++◌, map, length, get_or, take, ℤ, None, sum_by, sym, ap, ◌∙◌, subst, inl, inr, arith}
+use Rattle.std.proofs.Common.{◌≡◌, ℕ, ◌*◌, ◌≤◌, Bool, true, false, cond, List, [], ◌∷◌, ◌++◌, map, get_or, take, ℤ, None, sum_by, sym, ap, ◌∙◌, subst, inl, inr, arith}
 use Rattle.std.proofs.ByRecursion.{All-take, All-weaker}
-use Rattle.std.proofs.lemmas.List.{map_more, take_all}
+use Rattle.std.proofs.lemmas.List.{map_push}
 use Rattle.std.proofs.lemmas.List.Sums.{sum_by-take-le}
 use Rattle.std.proofs.lemmas.Bool.{cases_Bool}
 use Rattle.basis.specs.Vocabulary.{is_variable}
@@ -14,17 +14,15 @@ use Rattle.rulebooks.specs.Books.{Book}
 use Rattle.sheet.specs.Content.{Content}
 use Rattle.envelope.specs.declared.combination.Combination.{Combination}
 use Rattle.envelope.specs.declared.entry.Entry.{Entry}
-use Rattle.envelope.specs.Entries.{entries, parts_of, has, nowhere}
+use Rattle.envelope.specs.Entries.{entries, parts_of, has}
 use Rattle.envelope.specs.Combinations.{mask, weighted, factor, share}
-use Rattle.envelope.specs.Reported.{chosen_mask, with_chosen, base_share}
+use Rattle.envelope.specs.Reported.{with_chosen, base_share}
 use Rattle.envelope.specs.Walks.{fixed_share}
 use Rattle.envelope.proofs.Values.{zero_value, sum_comm}
 use Rattle.envelope.proofs.Totals.{Share, total_share, entries_sum}
-use Rattle.envelope.proofs.Numbering.{places_length}
 use Rattle.envelope.proofs.Setting.{Setting, Own, owned, share_value, share_active, share_none}
-use Rattle.envelope.proofs.Candidates.{Known, known}
+use Rattle.envelope.proofs.Candidates.{Known}
 use Rattle.envelope.proofs.Contributions.{share_base}
-use Rattle.envelope.proofs.Ground.{turn_within, of_turn}
 
 -- one effect more
 pub total_push : (n : ℕ) (xss : List (List ℤ)) (x : List ℤ) → exact_total n (xss ++ x ∷ []) ≡ exact_sum (exact_total n xss) x
@@ -78,36 +76,19 @@ module _ {E : Type 0} {components : E → List ℤ} {count : ℕ} {reaches : Lis
       let v = total_share kind laws w adds (take i (entries s)) few (All-take _ i (entries s) (All-weaker (Own kind laws xss) _ base_value (entries s) (owned kind laws s b xss set))) in
       omega (arith, v.bound)
 
-  -- a loop's turn: `total` is the sum so far, and `more` what the action at turn i adds
-  pub share_added : (list : List Entry) (i : ℕ) (total more next : List ℤ) → list ≡ entries s → i < length list → total ≡ exact_total count (map adds (take i list))
-      → more ≡ adds (get_or list i nowhere) → next ≡ sum total more → next ≡ exact_total count (map adds (take (i + 1) list))
-  share_added list i total more next laid h so is then =
-      let e : Entry = get_or list i nowhere in
-      let own = of_turn s (Own kind laws xss) list i laid h (owned kind laws s b xss set) in
-      let T = exact_total count (map adds (take i list)) in
-      let large : Large T = subst (λ (d : List Entry). Large (exact_total count (map adds (take i d)))) (sym laid) (total_large i) in
+  -- a loop's turn: `total` is the sum of the first i, and `more` what the next action adds
+  pub share_added : (list : List Entry) (i : ℕ) (e : Entry) (total more next : List ℤ) → list ≡ entries s → Own kind laws xss e → total ≡ exact_total count (map adds (take i list))
+      → more ≡ adds e → next ≡ sum total more → next ≡ exact_total count (map adds (take i list ++ e ∷ []))
+  share_added list i e total more next laid own so is then =
+      let done = take i list in
+      let large : Large (exact_total count (map adds done)) = subst (λ (d : List Entry). Large (exact_total count (map adds (take i d)))) (sym laid) (total_large i) in
       then
-      ∙ ap (λ t. sum t more) so
-      ∙ ap (sum T) is
-      ∙ large_sum T (adds e) large (base_large e own)
-      ∙ sym (total_push count (map adds (take i list)) (adds e))
-      ∙ ap (exact_total count) (sym (map_more adds list i nowhere h))
+      ∙ (λ j. sum (so j) (is j))
+      ∙ large_sum (exact_total count (map adds done)) (adds e) large (base_large e own)
+      ∙ sym (total_push count (map adds done) (adds e))
+      ∙ ap (exact_total count) (sym (map_push adds done e))
 
-  -- the mask of the action at turn i is there to read
-  pub mask_within : (list : List Entry) (i : ℕ) (masks : List ℕ) → list ≡ entries s → i < length list → masks ≡ (with_chosen count reaches s b xss 0 None 4095).masks → (get_or list i nowhere).number < length masks
-  mask_within list i masks laid h full =
-      omega (arith, turn_within s list i laid set.short h, ap length full, places_length 32 (map (chosen_mask count reaches s b xss 4095) (entries s)) 0)
-
-  -- the share of the action at turn i, as the code has it
-  pub share_read : (ps : List (List ℤ)) (list : List Entry) (i : ℕ) (masks : List ℕ) (r : List ℤ) → list ≡ entries s → i < length list
-      → masks ≡ (with_chosen count reaches s b xss 0 None 4095).masks → ps ≡ parts_of xss (get_or list i nowhere)
-      → r ≡ fixed_share count (b.form f) (get_or list i nowhere) (get_or masks (get_or list i nowhere).number 0) ps → r ≡ adds (get_or list i nowhere)
-  share_read ps list i masks r laid h full own is =
-      let e : Entry = get_or list i nowhere in
-      is
-      ∙ ap (fixed_share count (b.form f) e (get_or masks e.number 0)) own
-      ∙ ap (λ (ms : List ℕ). fixed_share count (b.form f) e (get_or ms e.number 0) (parts_of xss e)) full
-      ∙ share_is_base e (of_turn s _ list i laid h (known kind laws s b xss set 4095)) (of_turn s _ list i laid h (known kind laws s b xss set 0))
-
-  pub base_done : (list : List Entry) (i : ℕ) (total : List ℤ) → list ≡ entries s → length list ≤ i → total ≡ exact_total count (map adds (take i list)) → total ≡ exact_total count (map adds (entries s))
-  base_done list i total laid h so = so ∙ ap (λ (d : List Entry). exact_total count (map adds d)) (take_all i list h ∙ laid)
+  -- the share of an action, as the code has it
+  pub share_read : (e : Entry) (ps : List (List ℤ)) (masks : List ℕ) (r : List ℤ) → Known kind laws s b xss set 4095 e → Known kind laws s b xss set 0 e
+      → masks ≡ (with_chosen count reaches s b xss 0 None 4095).masks → ps ≡ parts_of xss e → r ≡ fixed_share count (b.form f) e (get_or masks e.number 0) ps → r ≡ adds e
+  share_read e ps masks r fe fz full own is = is ∙ (λ j. fixed_share count (b.form f) e (get_or (full j) e.number 0) (own j)) ∙ share_is_base e fe fz

@@ -1,6 +1,6 @@
 -- A walk over the actions that keeps the best event so far finds the first of greatest effect.
-use Rattle.std.proofs.Common.{◌≡◌, ℕ, zero, suc, ◌+◌, ◌<◌, ◌≤◌, Bool, true, false, cond, List, [], ◌∷◌, map, length, get_or, drop, ℤ, Some, None, filter, Option, sym, refl, ap, ◌∙◌, inl, inr, arith}
-use Rattle.std.proofs.lemmas.List.{drop-drop, at_drop_more, at_drop_all}
+use Rattle.std.proofs.Common.{◌≡◌, ℕ, zero, suc, ◌+◌, Bool, true, false, cond, List, [], ◌∷◌, map, length, drop, ℤ, Some, None, filter, Option, sym, refl, ap, ◌∙◌, inl, inr, arith}
+use Rattle.std.proofs.lemmas.List.{drop-drop}
 use Rattle.std.proofs.lemmas.Bool.{cases_Bool}
 use Rattle.std.specs.List.{slice_get}
 use Rattle.std.specs.Option.{option_map}
@@ -9,7 +9,7 @@ use Rattle.effects.specs.Supplies.{greatest_from}
 use Rattle.sheet.specs.Content.{Content}
 use Rattle.envelope.specs.declared.masks.Ranked.{Ranked}
 use Rattle.envelope.specs.declared.entry.Entry.{Entry}
-use Rattle.envelope.specs.Entries.{entries, parts_of, acts, nowhere}
+use Rattle.envelope.specs.Entries.{entries, parts_of, acts}
 use Rattle.envelope.specs.Choices.{first_greatest, event_effect, event_of}
 
 nth_here : {A : Type 0} (full : List A) (i : ℕ) (x : A) (rest : List A) → drop i full ≡ x ∷ rest → slice_get full i ≡ Some x
@@ -82,23 +82,6 @@ module _ (count : ℕ) (reaches : List ℤ → List ℤ → Bool) (test : Entry 
         | inr t ↦ ap tested t ∙ all_give rest ∙ sym (ap ranked t)
       ]
 
-  -- a loop's turn
-  module _ (list : List Entry) (i : ℕ) (h : i < length list) (best : Option (ℕ × List ℤ)) (r : Option ℕ) (so : left_gives best (drop i list) ≡ r) where
-    abbrev here : Entry
-    here = get_or list i nowhere
-
-    more : left_gives best (drop i list) ≡ cond (test here) (left_gives (Some (better reaches best (here.number, worth here))) (drop (i + 1) list)) (left_gives best (drop (i + 1) list))
-    more = at_drop_more (left_gives best) list i nowhere h
-
-    pub turn_taken : test here ≡ true → left_gives (Some (better reaches best (here.number, worth here))) (drop (i + 1) list) ≡ r
-    turn_taken t = sym (ap (λ (u : Bool). cond u (left_gives (Some (better reaches best (here.number, worth here))) (drop (i + 1) list)) (left_gives best (drop (i + 1) list))) t) ∙ sym more ∙ so
-
-    pub turn_passed : test here ≡ false → left_gives best (drop (i + 1) list) ≡ r
-    turn_passed t = sym (ap (λ (u : Bool). cond u (left_gives (Some (better reaches best (here.number, worth here))) (drop (i + 1) list)) (left_gives best (drop (i + 1) list))) t) ∙ sym more ∙ so
-
-  pub none_left : (list : List Entry) (i : ℕ) (best : Option (ℕ × List ℤ)) (r : Option ℕ) → length list ≤ i → left_gives best (drop i list) ≡ r → left_gives best [] ≡ r
-  none_left list i best r h so = sym (at_drop_all (left_gives best) list i h) ∙ so
-
 -- the walk over the actions of a sheet
 module _ {E : Type 0} (components : E → List ℤ) (count : ℕ) (reaches : List ℤ → List ℤ → Bool) (k : Kind) (xss : List (List ℤ)) where
   -- what an event adds
@@ -108,37 +91,42 @@ module _ {E : Type 0} (components : E → List ℤ) (count : ℕ) (reaches : Lis
   abbrev pub events_left : Option (Ranked E) → List Entry → Option ℕ
   events_left best list = left_gives count reaches (λ e. acts k e.action) worth_of (shown components best) list
 
-  module _ (list : List Entry) (i : ℕ) (h : i < length list) (best next : Option (Ranked E)) (r : Option ℕ) (so : events_left best (drop i list) ≡ r) where
-    -- the action at turn i is of the kind, with the effect x of its parts ps, and the best after it is w
-    pub event_taken : (x : E) (ps : List (List ℤ)) (w : Ranked E) → acts k (get_or list i nowhere).action ≡ true
-        → ps ≡ parts_of xss (get_or list i nowhere) → components x ≡ event_effect count reaches (get_or list i nowhere).action.spread ps
-        → w ≡ elim best [ None ↦ record { number = (get_or list i nowhere).number; effect = x } | Some b ↦ cond (reaches (components b.effect) (components x)) b (record { number = (get_or list i nowhere).number; effect = x }) ]
-        → next ≡ Some w → events_left next (drop (i + 1) list) ≡ r
+  -- a loop's turn
+  module _ (e : Entry) (rest : List Entry) (best next : Option (Ranked E)) (r : Option ℕ) (so : events_left best (e ∷ rest) ≡ r) where
+    abbrev from_here : Option (ℕ × List ℤ) → Option ℕ
+    from_here b = left_gives count reaches (λ (d : Entry). acts k d.action) worth_of b rest
+
+    abbrev with_it : Option ℕ
+    with_it = from_here (Some (better reaches (shown components best) (e.number, worth_of e)))
+
+    -- the action is of the kind, with the effect x of its parts ps, and the best after it is w
+    pub event_taken : (x : E) (ps : List (List ℤ)) (w : Ranked E) → acts k e.action ≡ true → ps ≡ parts_of xss e → components x ≡ event_effect count reaches e.action.spread ps
+        → w ≡ elim best [ None ↦ record { number = e.number; effect = x } | Some b ↦ cond (reaches (components b.effect) (components x)) b (record { number = e.number; effect = x }) ]
+        → next ≡ Some w → events_left next rest ≡ r
     event_taken x ps w t own worth is then =
-        let e : Entry = get_or list i nowhere in
-        let after = left_gives count reaches (λ (d : Entry). acts k d.action) worth_of in
-        let x_is : components x ≡ worth_of e = worth ∙ ap (event_effect count reaches e.action.spread) own in
-        ap (λ (o : Option (Ranked E)). events_left o (drop (i + 1) list)) (then ∙ ap Some is)
-        ∙ ap (λ (o : Option (ℕ × List ℤ)). after o (drop (i + 1) list)) (shown_better components reaches best (record { number = e.number; effect = x }))
-        ∙ ap (λ (ys : List ℤ). after (Some (better reaches (shown components best) (e.number, ys))) (drop (i + 1) list)) x_is
-        ∙ turn_taken count reaches (λ (d : Entry). acts k d.action) worth_of list i h (shown components best) r so t
+        ap (λ (o : Option (Ranked E)). events_left o rest) (then ∙ ap Some is)
+        ∙ ap from_here (shown_better components reaches best (record { number = e.number; effect = x }))
+        ∙ ap (λ (ys : List ℤ). from_here (Some (better reaches (shown components best) (e.number, ys)))) (worth ∙ ap (event_effect count reaches e.action.spread) own)
+        ∙ sym (ap (λ (u : Bool). cond u with_it (from_here (shown components best))) t)
+        ∙ so
 
     -- it is not
-    pub event_passed : acts k (get_or list i nowhere).action ≡ false → next ≡ best → events_left next (drop (i + 1) list) ≡ r
+    pub event_passed : acts k e.action ≡ false → next ≡ best → events_left next rest ≡ r
     event_passed t then =
-        ap (λ (o : Option (Ranked E)). events_left o (drop (i + 1) list)) then
-        ∙ turn_passed count reaches (λ (d : Entry). acts k d.action) worth_of list i h (shown components best) r so t
+        ap (λ (o : Option (Ranked E)). events_left o rest) then
+        ∙ sym (ap (λ (u : Bool). cond u with_it (from_here (shown components best))) t)
+        ∙ so
 
   number_found : (best : Option (Ranked E)) → option_map (λ r. r.number) best ≡ events_left best []
   number_found None = refl
   number_found (Some r) = refl
 
   -- the best after the last action
-  pub event_found : (s : Content) (kind : Option Kind) (list : List Entry) (i : ℕ) (best : Option (Ranked E)) → kind ≡ Some k → list ≡ entries s → length list ≤ i
-      → events_left best (drop i list) ≡ events_left None list → option_map (λ r. r.number) best ≡ event_of count reaches kind s xss
-  event_found s kind list i best is laid h so =
+  pub event_found : (s : Content) (kind : Option Kind) (list : List Entry) (best : Option (Ranked E)) → kind ≡ Some k → list ≡ entries s
+      → events_left best [] ≡ events_left None list → option_map (λ r. r.number) best ≡ event_of count reaches kind s xss
+  event_found s kind list best is laid so =
       number_found best
-      ∙ none_left count reaches (λ (d : Entry). acts k d.action) worth_of list i (shown components best) (events_left None list) h so
+      ∙ so
       ∙ ap (events_left None) laid
       ∙ all_give count reaches (λ (d : Entry). acts k d.action) worth_of (entries s)
       ∙ ap (λ (a : Option Kind). event_of count reaches a s xss) (sym is)

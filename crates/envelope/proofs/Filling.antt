@@ -1,16 +1,12 @@
 -- A half of the strip, filled place by place.
-use Rattle.std.proofs.Common.{◌≡◌, ℕ, ◌+◌, ◌<◌, ◌≤◌, true, cond, List, [], ◌∷◌, ◌++◌, map, length, get_or, take, drop, set, replicate, ℤ, refl, sym, ap, ◌∙◌}
-use Rattle.std.proofs.lemmas.List.{drop-map, map-set, map-append, length-map, take_at, drop_at, drop-drop, append_assoc}
+use Rattle.std.proofs.Common.{◌≡◌, ℕ, cond, List, [], ◌∷◌, ◌++◌, map, length, get_or, take, drop, replicate, ℤ, refl, sym, ap, ◌∙◌}
+use Rattle.std.proofs.lemmas.List.{drop-map, map-append, length-map, take_at, drop_at, drop-drop, append_assoc}
 use Rattle.std.specs.List.{FoldsTo}
-use Rattle.sheet.specs.Content.{Content}
-use Rattle.sheet.specs.Limits.{variables}
-use Rattle.effects.specs.Components.{zeros, exact_multiple}
+use Rattle.effects.specs.Components.{exact_multiple}
 use Rattle.envelope.specs.declared.entry.Entry.{Entry}
-use Rattle.envelope.specs.Entries.{entries, nowhere, parts_of, has}
+use Rattle.envelope.specs.Entries.{parts_of, has}
 use Rattle.envelope.specs.Combinations.{weighted}
 use Rattle.envelope.specs.Layout.{contribution_by}
-use Rattle.envelope.proofs.Walk.{Placed, placed_yes}
-use Rattle.envelope.proofs.Variables.{varies}
 
 -- what as many calls wrote, each of which gives the same
 pub made_alike : {A P : Type 0} (f : A → List ℤ) (z : List ℤ) (step : P → A → P → Type 0) → ((p : P) (x : A) (q : P) → step p x q → f x ≡ z)
@@ -27,14 +23,6 @@ pub contributed : (n : ℕ) (xss : List (List ℤ)) (masks : List ℕ) (factor_o
     → r ≡ contribution_by n xss masks factor_of e
 contributed n xss masks factor_of e parts units r own factor value =
     value ∙ (λ t. exact_multiple (factor t) (weighted n (λ p. cond (has (get_or masks e.number 0) p) 1 0) (own t)))
-
--- one contribution more
-pub filled_yes : {E : Type 0} (components : E → List ℤ) (n : ℕ) (f : Entry → List ℤ) (s : Content) (list : List Entry) (is : list ≡ entries s) (i : ℕ) (half : List E) (r : E)
-    → variables s.actions ≤ 12 → i < length list → varies (get_or list i nowhere) ≡ true → components r ≡ f (get_or list i nowhere)
-    → Placed f (zeros n) list i (map components half) → Placed f (zeros n) list (i + 1) (map components (set half (get_or list i nowhere).place r))
-filled_yes components n f s list is i half r few l v value so =
-    map-set components half (get_or list i nowhere).place r
-    ∙ placed_yes f (zeros n) s list is i (map components half) few l v (components r) value so
 
 -- a half has twelve places
 half_long : {E : Type 0} (components : E → List ℤ) (half : List E) (xss : List (List ℤ)) → map components half ≡ xss → length xss ≡ 12 → length half ≡ 12

@@ -45,6 +45,11 @@ grounded kind laws s b es so bl supplied = record {
   forms = form_laws b bl;
 }
 
+-- the code's sheet with its effects and a rulebook
+pub on_sheet : {E : Type 0} {components : E → List ℤ} {count : ℕ} {reaches : List ℤ → List ℤ → Bool} (kind : Closed components count) (laws : Laws components count reaches)
+    (sheet : Sheet) (b : Book) (es : List E) → BookLaws b → Supplied (content sheet) (map components es) → Setting kind laws (content sheet) b (map components es)
+on_sheet kind laws sheet b es bl supplied = grounded kind laws (content sheet) b es (sound_of _ (content sheet).actions sheet.limited sheet.formed) bl supplied
+
 -- an action's own parts among the effects
 pub record AtHand {E : Type 0} (components : E → List ℤ) (es : List E) (e : Entry) : Type 0 where
   pub within : e.first + e.action.parts ≤ length es
@@ -102,8 +107,3 @@ pub at_hand : {E : Type 0} (components : E → List ℤ) (sheet : Sheet) (list :
     → Contains list e → AtHand components es e
 at_hand components sheet list es e is supplied member =
     elements.All-contains (AtHand components es) list e (elements.All-from_get_or (AtHand components es) list nowhere (λ i l. at_turn components (content sheet) es sheet.formed supplied list i is l)) member
-
--- a sheet with the effects that are supplied for it, and a rulebook
-pub setting : {E : Type 0} {components : E → List ℤ} {count : ℕ} {reaches : List ℤ → List ℤ → Bool} (kind : Closed components count) (laws : Laws components count reaches)
-    (sheet : Sheet) (b : Book) (es : List E) → BookLaws b → Supplied (content sheet) (map components es) → Setting kind laws (content sheet) b (map components es)
-setting kind laws sheet b es book = grounded kind laws (content sheet) b es (sound_of _ (content sheet).actions sheet.limited sheet.formed) book

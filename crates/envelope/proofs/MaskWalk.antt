@@ -1,24 +1,19 @@
--- A walk over the actions that writes the mask of each.
-use Rattle.std.proofs.Common.{◌≡◌, ℕ, ◌+◌, ◌<◌, ◌≤◌, Bool, true, cond, List, [], ◌∷◌, ◌++◌, map, length, get_or, take, set, ℤ, Option, sym, refl, ap, ◌∙◌, arith}
-use lib.ListN.{length-map}
-use Rattle.std.proofs.lemmas.List.{map_more, length-take-le, take_all}
+-- The mask of an action as the code has it.
+use Rattle.std.proofs.Common.{◌≡◌, ℕ, ◌≤◌, Bool, true, cond, List, length, ℤ, Option, sym, refl, ap, ◌∙◌, arith}
 use Rattle.basis.specs.declared.action.Kind.{Kind}
 use Rattle.basis.specs.declared.action.Kind.TheVariants.{Permanent, Prestress, Variable, Accidental, Seismic}
 use Rattle.basis.specs.Vocabulary.{is_variable}
 use Rattle.rulebooks.specs.Books.{Book}
 use Rattle.sheet.specs.Content.{Content}
 use Rattle.sheet.specs.Limits.{variables}
-use Rattle.envelope.specs.Places.{places}
 use Rattle.envelope.specs.declared.entry.Entry.{Entry}
-use Rattle.envelope.specs.Entries.{entries, parts_of, has, whole, nowhere}
+use Rattle.envelope.specs.Entries.{parts_of, has, whole}
 use Rattle.envelope.specs.Combinations.{named}
 use Rattle.envelope.specs.Choices.{choice, event_choice}
 use Rattle.envelope.specs.Reported.{chosen_event, kind_mask, chosen_mask}
 use Rattle.envelope.specs.Walks.{mask_in_kind, full_mask}
 use Rattle.envelope.proofs.Bits.{has_whole}
-use Rattle.envelope.proofs.LaidOut.{places_more}
 use Rattle.envelope.proofs.Variables.{varies, Placed}
-use Rattle.envelope.proofs.Ground.{turn_number, turn_within}
 
 module _ (count : ℕ) (reaches : List ℤ → List ℤ → Bool) (s : Content) (b : Book) (xss : List (List ℤ)) where
   -- the mask of an action in the set of all places
@@ -37,7 +32,6 @@ module _ (count : ℕ) (reaches : List ℤ → List ℤ → Bool) (s : Content) 
   pub place_held : (e : Entry) → variables s.actions ≤ 12 → (varies e ≡ true → Placed s e) → varies e ≡ true → has 4095 e.place ≡ true
   place_held e few at v = has_whole 12 e.place (omega (arith, (at v).within))
 
-  -- the mask of an action as the code has it
   pub mask_is : (event : Option ℕ) (e : Entry) (ps : List (List ℤ)) (splits : Bool) (m : ℕ) → event ≡ chosen_event count reaches s b xss → splits ≡ b.splits
       → variables s.actions ≤ 12 → (varies e ≡ true → Placed s e) → ps ≡ parts_of xss e → length ps ≡ e.action.parts
       → m ≡ full_mask count reaches splits event e ps → m ≡ mask_there e
@@ -45,22 +39,3 @@ module _ (count : ℕ) (reaches : List ℤ → List ℤ → Bool) (s : Content) 
       is
       ∙ (λ j. full_mask count reaches (split j) event e (own j))
       ∙ ap (λ m. cond e.action.active m 0) (in_kind event e e.action.kind chosen (ap length (sym own) ∙ size) (place_held e few at))
-
-  -- the masks of the first i actions
-  abbrev pub masks_upto : List Entry → ℕ → List ℕ
-  masks_upto list i = places 32 (map mask_there (take i list)) 0
-
-  pub mask_written : (list : List Entry) (i : ℕ) (masks : List ℕ) (m : ℕ) → list ≡ entries s → length s.actions ≤ 32 → i < length list → masks ≡ masks_upto list i → m ≡ mask_there (get_or list i nowhere)
-      → set masks (get_or list i nowhere).number m ≡ masks_upto list (i + 1)
-  mask_written list i masks m laid short h so is =
-      let l : length (map mask_there (take i list)) ≡ i = length-map (take i list) mask_there ∙ length-take-le i list (omega arith) in
-      let n : (get_or list i nowhere).number ≡ i = turn_number s list i laid h in
-      let low : i < 32 = omega (arith, turn_within s list i laid short h) in
-      ap (λ (ms : List ℕ). set ms (get_or list i nowhere).number m) so
-      ∙ ap (λ j. set (masks_upto list i) j m) (n ∙ sym l)
-      ∙ places_more 32 (map mask_there (take i list)) 0 m (length (map mask_there (take i list))) refl (omega arith)
-      ∙ ap (λ v. places 32 (map mask_there (take i list) ++ v ∷ []) 0) is
-      ∙ ap (λ (ms : List ℕ). places 32 ms 0) (sym (map_more mask_there list i nowhere h))
-
-  pub masks_done : (list : List Entry) (i : ℕ) (masks : List ℕ) → list ≡ entries s → length list ≤ i → masks ≡ masks_upto list i → masks ≡ places 32 (map mask_there (entries s)) 0
-  masks_done list i masks laid h so = so ∙ ap (λ (d : List Entry). places 32 (map mask_there d) 0) (take_all i list h ∙ laid)

@@ -14,7 +14,7 @@ pub record Supplied (s : Content) (xss : List (List ℤ)) : Type 0 where
   pub complete : length xss ≡ parts_in s.actions
   pub small : AllByRecursion (λ xs. size xs ≤ 1_000_000_000) xss
 
--- the parts of one action: at least one, at most 16, and each as small
+-- the parts of one action: at least one, at most 16, none of size past 10^9
 pub record OneAction {E : Type 0} (components : E → List ℤ) (parts : List E) : Type 0 where
   pub some : 1 ≤ length parts
   pub few : length parts ≤ 16

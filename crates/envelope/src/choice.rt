@@ -1,9 +1,9 @@
 // The parts of one action: those that act, by the ranking, and their sums.
-ghost use Rattle.std.specs.Prelude.{◌≡◌, ◌<◌, ◌≤◌, map, length, if◌then◌else◌, Contains};
+ghost use Rattle.std.specs.Prelude.{◌≡◌, ◌<◌, ◌≤◌, map, length, Contains};
 ghost use Rattle.basis.specs.declared.action.Spread.TheVariants.{Free};
 ghost use Rattle.effects.specs.Components.{exact_multiple};
 ghost use Rattle.effects.specs.Laws.{Small};
-ghost use Rattle.envelope.specs.Entries.{parts_of as own_parts, has as in_set, whole};
+ghost use Rattle.envelope.specs.Entries.{parts_of as own_parts, whole};
 ghost use Rattle.envelope.specs.Combinations.{weighted, by_mask};
 ghost use Rattle.envelope.specs.Choices.{above_zero, greatest_part, choice, at_upper, event_choice, event_effect};
 
@@ -81,7 +81,7 @@ impl<'a, E: Effect> Parts<'a, E> {
         ensures within { result < length self.now }
         ensures held { result < 16 }
     {
-        greatest(self.effects).unwrap_or(0)
+        greatest(self.effects).unwrap()
     }
 
     // The mask of those that act in an event.
@@ -104,7 +104,8 @@ impl<'a, E: Effect> Parts<'a, E> {
         }
     }
 
-    // The mask of a variable action, if it is present; 0 where it has no choice. What is not free is present as in an event.
+    // The mask of a variable action, if it is present; 0 where it has no choice. Fixed and alternative parts act as in an event, if
+    // what they add ranks above zero.
     pub(crate) fn choice(&self, spread: Spread) -> u16
         ensures { result ≡ choice E.count E.reaches spread self.now }
     {
@@ -129,7 +130,7 @@ impl<'a, E: Effect> Parts<'a, E> {
 
     // The sum of those in a mask.
     fn sum_of(&self, mask: u16) -> E
-        ensures value { E.components result ≡ weighted E.count (λ p. (if in_set mask p then 1 else 0)) self.now }
+        ensures value { E.components result ≡ weighted E.count (by_mask 1 0 mask) self.now }
         ensures small { Small (E.components result) }
     {
         let mut sum = E::zero();
@@ -145,6 +146,7 @@ impl<'a, E: Effect> Parts<'a, E> {
     pub(crate) fn weighed(&self, mask: u16, inside: Factor, outside: Factor) -> E
         ensures { E.components result ≡ weighted E.count (by_mask inside.units outside.units mask) self.now }
     {
+        // a mask has a place for each part
         let _ = &self.effects;
         let held = self.sum_of(mask);
         let others = self.sum_of(!mask);
@@ -154,7 +156,7 @@ impl<'a, E: Effect> Parts<'a, E> {
     // The sum of those in the mask, times a factor.
     #[tactic(auto, using(effects::specs::Lists::small_multiple))]
     pub(crate) fn contribution(&self, mask: u16, factor: Factor) -> E
-        ensures { E.components result ≡ exact_multiple factor.units (weighted E.count (λ p. (if in_set mask p then 1 else 0)) self.now) }
+        ensures { E.components result ≡ exact_multiple factor.units (weighted E.count (by_mask 1 0 mask) self.now) }
     {
         self.sum_of(mask).times(factor)
     }

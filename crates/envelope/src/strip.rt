@@ -10,7 +10,8 @@ use basis::factor::Factor;
 use effects::effect::Effect;
 use rulebooks::rulebook::Rulebook;
 
-// How a variable action acts beside the others.
+// How a variable action acts beside the others. It is no closure that gives the factor, since of a closure a contract can say only
+// what its calls may give, and of a role it names the factor.
 #[derive(Clone, Copy)]
 pub(crate) enum Role {
     Leading,

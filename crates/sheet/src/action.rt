@@ -1,11 +1,13 @@
 // An action of a sheet as a caller describes it, and why a call is refused.
-ghost use Rattle.std.specs.Prelude.{◌≡◌};
+ghost use Rattle.std.specs.Prelude.{◌≡◌, IfErr};
+ghost use Rattle.std.specs.Result.{result_ok};
 ghost use Rattle.sheet.specs.Answers.{said, refusal_number};
 ghost use Rattle.sheet.specs.Calls.{category_for, spread_for, described};
 ghost use Rattle.sheet.specs.Limits.{parts_allowed};
+ghost use Rattle.sheet.specs.declared.action.Refusal.TheVariants.{NoSuchKind, WrongCategory, WrongSpread};
 
-use basis::action::{Kind, Spread};
-use basis::category::Category;
+use basis::action::{Kind, Spread, UnknownKind, UnknownSpread};
+use basis::category::{Category, UnknownCategory};
 
 // One entry of a sheet. A variable action has a category, any other none.
 #[derive(Clone, Copy, PartialEq, Eq, Debug)]
@@ -40,44 +42,70 @@ pub enum Refusal {
     ActivityUnchanged,
 }
 
-impl Refusal {
-    pub fn number(self) -> u8
-        ensures { result ≡ refusal_number self }
-    {
-        self as u8
+// The number of a refusal.
+impl From<Refusal> for u8 {
+    ghost from_gives = { λ refusal number. number ≡ refusal_number refusal };
+
+    fn from(refusal: Refusal) -> u8 {
+        refusal as u8
+    }
+}
+
+impl From<UnknownKind> for Refusal {
+    ghost from_gives = { λ _ refusal. refusal ≡ NoSuchKind };
+
+    fn from(_unknown: UnknownKind) -> Refusal {
+        Refusal::NoSuchKind
+    }
+}
+
+impl From<UnknownCategory> for Refusal {
+    ghost from_gives = { λ _ refusal. refusal ≡ WrongCategory };
+
+    fn from(_unknown: UnknownCategory) -> Refusal {
+        Refusal::WrongCategory
+    }
+}
+
+impl From<UnknownSpread> for Refusal {
+    ghost from_gives = { λ _ refusal. refusal ≡ WrongSpread };
+
+    fn from(_unknown: UnknownSpread) -> Refusal {
+        Refusal::WrongSpread
     }
 }
 
 // The category of an action of the kind: by its letter if variable, by the mark '-' if not.
-fn category_for(kind: Kind, letter: char) -> Option<Option<Category>>
-    ensures { result ≡ category_for kind letter }
+fn category_for(kind: Kind, letter: char) -> Result<Option<Category>, Refusal>
+    ensures category { result_ok result ≡ category_for kind letter }
+    ensures refused { IfErr result (λ refusal. refusal ≡ WrongCategory) }
 {
     if kind.is_variable() {
-        let category = Category::from_letter(letter)?;
-        Some(Some(category))
+        Ok(Some(Category::try_from(letter)?))
     } else if letter == '-' {
-        Some(None)
+        Ok(None)
     } else {
-        None
+        Err(Refusal::WrongCategory)
     }
 }
 
 // The spread of a number, if the kind allows it.
-fn spread_for(kind: Kind, number: u8) -> Option<Spread>
-    ensures { result ≡ spread_for kind number }
+fn spread_for(kind: Kind, number: u8) -> Result<Spread, Refusal>
+    ensures spread { result_ok result ≡ spread_for kind number }
+    ensures refused { IfErr result (λ refusal. refusal ≡ WrongSpread) }
 {
-    let spread = Spread::from_number(number)?;
+    let spread = Spread::try_from(number)?;
     if kind.allows(spread) {
-        Some(spread)
+        Ok(spread)
     } else {
-        None
+        Err(Refusal::WrongSpread)
     }
 }
 
 fn parts_allowed(parts: u8) -> bool
     ensures { result ≡ parts_allowed parts }
 {
-    (parts >= 1) & (parts <= 16)
+    (1..=16).contains(&parts)
 }
 
 impl Action {
@@ -90,15 +118,9 @@ impl Action {
     ) -> Result<Action, Refusal>
         ensures { said result ≡ described kind letter spread parts }
     {
-        let Some(kind) = Kind::from_number(kind) else {
-            return Err(Refusal::NoSuchKind);
-        };
-        let Some(category) = category_for(kind, letter) else {
-            return Err(Refusal::WrongCategory);
-        };
-        let Some(spread) = spread_for(kind, spread) else {
-            return Err(Refusal::WrongSpread);
-        };
+        let kind = Kind::try_from(kind)?;
+        let category = category_for(kind, letter)?;
+        let spread = spread_for(kind, spread)?;
         if !parts_allowed(parts) {
             return Err(Refusal::WrongParts);
         }

@@ -21,10 +21,7 @@ impl Sheet {
         if !self.actions[number].kind.is_variable() {
             return Err(Refusal::NotVariable);
         }
-        let Some(category) = Category::from_letter(letter) else {
-            return Err(Refusal::WrongCategory);
-        };
-        Ok(category)
+        Ok(Category::try_from(letter)?)
     }
 
     // Whether a pair may be marked or unmarked, if its mark would change.

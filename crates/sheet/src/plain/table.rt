@@ -19,13 +19,10 @@ const PARTS: usize = 192;
 fn count_variable(actions: &[Action]) -> usize
     ensures { result ≡ variables actions.now }
 {
-    let mut count = 0;
-    for action in actions {
-        if action.kind.is_variable() {
-            count += 1;
-        }
-    }
-    count
+    actions
+        .iter()
+        .filter(|action| action.kind.is_variable())
+        .count()
 }
 
 // How many parts the actions have together.
@@ -33,14 +30,10 @@ fn count_parts(actions: &[Action]) -> usize
     requires { parts_in actions.now ≤ 192 }
     ensures { result ≡ parts_in actions.now }
 {
-    let mut count = 0;
-    for action in actions {
-        count += action.parts as usize;
-    }
-    count
+    actions.iter().map(|action| usize::from(action.parts)).sum()
 }
 
-// Writes one place of a row of marks.
+// Writes one place of a row of marks. Written in place, through two indices, it leaves a goal that has no name for the row.
 fn put(row: &mut [bool; 32], at: usize, mark: bool)
     requires { at < 32 }
     ensures after { row.new ≡ slice_set row.old at mark }
@@ -104,9 +97,8 @@ impl Sheet {
     pub(crate) fn has_room(&self, action: &Action) -> bool
         ensures { result ≡ in_limits ((content self.now).actions ++ action.now ∷ []) }
     {
-        let one = if action.kind.is_variable() { 1 } else { 0 };
-        let variable = count_variable(&self.actions) + one;
-        let parts = count_parts(&self.actions) + action.parts as usize;
+        let variable = count_variable(&self.actions) + usize::from(action.kind.is_variable());
+        let parts = count_parts(&self.actions) + usize::from(action.parts);
         (self.actions.len() + 1 <= ACTIONS) & (variable <= VARIABLE_ACTIONS) & (parts <= PARTS)
     }
 
@@ -134,8 +126,7 @@ impl Sheet {
         requires { number < vec_len self.old.actions }
         ensures { content self.new ≡ with_action (content self.old) number (switched on (action_at (content self.old) number)) }
     {
-        let action = &mut self.actions[number];
-        action.active = on;
+        self.actions[number].active = on;
     }
 
     // Marks a pair of variable actions as excluded, or takes the mark away.

@@ -1,5 +1,5 @@
 // The calls that change a draft. A refused call leaves it as it was.
-ghost use Rattle.std.specs.Prelude.{◌≡◌};
+ghost use Rattle.std.specs.Prelude.{◌≡◌, if◌then◌else◌};
 ghost use Rattle.sheet.specs.Content.{on_draft};
 ghost use Rattle.sheet.specs.Answers.{said};
 ghost use Rattle.sheet.specs.Calls.{entering, excluding, lifting, recasting, suspending, resuming};
@@ -34,41 +34,48 @@ impl Draft {
     pub fn suspend(&mut self, number: usize) -> Result<(), Refusal>
         ensures { (said result, on_draft self.new) ≡ suspending (on_draft self.old) number }
     {
-        if !self.sheet.is_active(number)? {
-            return Err(Refusal::ActivityUnchanged);
-        }
-        self.sheet.set_active(number, false);
-        Ok(())
+        self.switch(number, false)
     }
 
     // Switches a suspended action on again.
     pub fn resume(&mut self, number: usize) -> Result<(), Refusal>
         ensures { (said result, on_draft self.new) ≡ resuming (on_draft self.old) number }
     {
-        if self.sheet.is_active(number)? {
-            return Err(Refusal::ActivityUnchanged);
-        }
-        self.sheet.set_active(number, true);
-        Ok(())
+        self.switch(number, true)
     }
 
     // Excludes two variable actions from acting together.
     pub fn exclude(&mut self, a: usize, b: usize) -> Result<(), Refusal>
         ensures { (said result, on_draft self.new) ≡ excluding (on_draft self.old) a b }
     {
-        let excluded = self.sheet.excludes(a, b);
-        self.sheet.check_pair(a, b, !excluded)?;
-        self.sheet.set_mark(a, b, true);
-        Ok(())
+        self.mark(a, b, true)
     }
 
     // Lets two excluded actions act together again.
     pub fn lift(&mut self, a: usize, b: usize) -> Result<(), Refusal>
         ensures { (said result, on_draft self.new) ≡ lifting (on_draft self.old) a b }
     {
-        let excluded = self.sheet.excludes(a, b);
-        self.sheet.check_pair(a, b, excluded)?;
-        self.sheet.set_mark(a, b, false);
+        self.mark(a, b, false)
+    }
+
+    // Resumes an action or suspends it.
+    fn switch(&mut self, number: usize, on: bool) -> Result<(), Refusal>
+        ensures { (said result, on_draft self.new) ≡ (if on then resuming (on_draft self.old) number else suspending (on_draft self.old) number) }
+    {
+        if self.sheet.is_active(number)? == on {
+            return Err(Refusal::ActivityUnchanged);
+        }
+        self.sheet.set_active(number, on);
+        Ok(())
+    }
+
+    // Excludes two actions or lifts that.
+    fn mark(&mut self, a: usize, b: usize, mark: bool) -> Result<(), Refusal>
+        ensures { (said result, on_draft self.new) ≡ (if mark then excluding (on_draft self.old) a b else lifting (on_draft self.old) a b) }
+    {
+        let changes = self.sheet.excludes(a, b) != mark;
+        self.sheet.check_pair(a, b, changes)?;
+        self.sheet.set_mark(a, b, mark);
         Ok(())
     }
 }

@@ -2,7 +2,7 @@ use Rattle.std.proofs.Common.{map, drop, sym, ap, ◌∙◌}
 use Rattle.rulebooks.specs.Books.{Book}
 use Rattle.sheet.specs.Content.{content}
 use Rattle.envelope.specs.Combinations.{effect_of}
-use Rattle.envelope.proofs.Ground.{setting}
+use Rattle.envelope.proofs.Ground.{on_sheet}
 use Rattle.envelope.proofs.Recorded.{laid_here, leader_fits, event_fits, recorded, reported_so, strip_left}
 use Rattle.envelope.proofs.report.report.Goals as goal
 
@@ -18,7 +18,7 @@ in_record-requires g c =
     let sheet = c.args.sheet.now in
     let b : Book = g.R.Rulebook.meaning c.args.book.now in
     let xss = map g.E.Effect.components c.args.effects.now in
-    let set = setting met.closed met.laws sheet b c.args.effects.now (g.met.R.Rulebook.laws c.args.book.now) c.requires.supplied in
+    let set = on_sheet met.closed met.laws sheet b c.args.effects.now (g.met.R.Rulebook.laws c.args.book.now) c.requires.supplied in
     let best = c.best_combination-best in
     leader_fits met.closed met.laws (content sheet) b xss set sheet.limited.2 best.result.form best.result.leader best.result.set best.ensures.best
 
@@ -28,7 +28,7 @@ in_record-requires-2 g c =
     let sheet = c.args.sheet.now in
     let b : Book = g.R.Rulebook.meaning c.args.book.now in
     let xss = map g.E.Effect.components c.args.effects.now in
-    let set = setting met.closed met.laws sheet b c.args.effects.now (g.met.R.Rulebook.laws c.args.book.now) c.requires.supplied in
+    let set = on_sheet met.closed met.laws sheet b c.args.effects.now (g.met.R.Rulebook.laws c.args.book.now) c.requires.supplied in
     let best = c.best_combination-best in
     event_fits met.closed met.laws (content sheet) b xss set sheet.limited.2 best.result.form best.result.leader best.result.set best.ensures.best c.chosen_event-event.result c.chosen_event-event.ensures
 
@@ -38,7 +38,7 @@ returns g c =
     let sheet = c.args.sheet.now in
     let b : Book = g.R.Rulebook.meaning c.args.book.now in
     let xss = map g.E.Effect.components c.args.effects.now in
-    let set = setting met.closed met.laws sheet b c.args.effects.now (g.met.R.Rulebook.laws c.args.book.now) c.requires.supplied in
+    let set = on_sheet met.closed met.laws sheet b c.args.effects.now (g.met.R.Rulebook.laws c.args.book.now) c.requires.supplied in
     let best = c.best_combination-best in
     let same =
     recorded met.closed met.laws (content sheet) b xss set sheet.limited.2 best.result.form best.result.leader best.result.set best.ensures.best

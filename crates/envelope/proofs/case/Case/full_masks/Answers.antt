@@ -1,15 +1,12 @@
-use Rattle.std.proofs.Common.{◌<◌, map, get_or, refl, rules}
+use Rattle.std.proofs.Common.{◌<◌, map, get_or, rules}
 use Rattle.rulebooks.specs.Books.{Book}
 use Rattle.sheet.specs.Content.{Content, content}
 use Rattle.envelope.specs.Entries.{nowhere}
 use Rattle.envelope.proofs.Variables.{placed}
-use Rattle.envelope.proofs.MaskWalk.{mask_is}
-use Rattle.envelope.proofs.MaskWalk.{mask_written, masks_done}
+use Rattle.envelope.proofs.MaskWalk.{mask_is, mask_there}
 use Rattle.envelope.proofs.Ground.{turn_within, of_turn}
+use Rattle.envelope.proofs.Walk.{numbered_more}
 use Rattle.envelope.proofs.case.Case.full_masks.Goals as goal
-
-pub loop-entry-init : goal.loop-entry-init
-loop-entry-init g c = refl
 
 pub offset_bounds-masks-entry : goal.offset_bounds-masks-entry
 offset_bounds-masks-entry g c =
@@ -29,11 +26,7 @@ loop-entry-preserved g c =
     let list = c.args.self.now.entries.now in
     let i = c.loop-entry.entry-index in
     let limits = c.args.self.now.sheet.now.limited in
+    let parts = c.of.ensures in
     let place = of_turn s _ list i c.args.self.now.laid c.loop-entry-test.true (placed s) in
-    let is = mask_is e.count e.reaches s b xss c.args.event (get_or list i nowhere) c.of.result c.splits-splits.result c.mask_of.result c.requires c.splits-splits.ensures limits.2 place c.of.ensures.own c.of.ensures.all c.mask_of.ensures in
-    mask_written e.count e.reaches s b xss list i c.loop-entry.masks c.mask_of.result c.args.self.now.laid limits.1 c.loop-entry-test.true c.loop-entry.invariant is
-
-pub returns : goal.returns
-returns g c =
-    let e = g.E.Effect in
-    masks_done e.count e.reaches (content c.args.self.now.sheet.now) (g.R.Rulebook.meaning c.args.self.now.book.now) (map e.components c.args.self.now.effects.now) c.args.self.now.entries.now c.loop-entry.entry-index c.loop-entry.masks c.args.self.now.laid c.loop-entry-test.false c.loop-entry.invariant
+    let is = mask_is e.count e.reaches s b xss c.args.event (get_or list i nowhere) c.of.result c.splits-splits.result c.mask_of.result c.requires c.splits-splits.ensures limits.2 place parts.own parts.all c.mask_of.ensures in
+    numbered_more (mask_there e.count e.reaches s b xss) 0 s list c.args.self.now.laid i c.loop-entry.masks limits.1 c.loop-entry-test.true c.mask_of.result is c.loop-entry.invariant

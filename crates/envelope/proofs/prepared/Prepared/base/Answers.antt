@@ -1,11 +1,15 @@
-use Rattle.std.proofs.Common.{arith}
-use Rattle.sheet.specs.Content.{content}
-use Rattle.envelope.proofs.BaseWalk.{base_done, share_added, share_read}
-use Rattle.envelope.proofs.Ground.{setting, turn_within}
+use Rattle.std.proofs.Common.{map, get_or, sym, ap, ◌∙◌, arith}
+use Rattle.std.proofs.lemmas.List.{take_more}
+use Rattle.effects.specs.Supplies.{exact_total}
+use Rattle.rulebooks.specs.Books.{Book}
+use Rattle.sheet.specs.Content.{Content, content}
+use Rattle.envelope.specs.Entries.{nowhere}
+use Rattle.envelope.specs.Reported.{base_share}
+use Rattle.envelope.proofs.Setting.{owned}
+use Rattle.envelope.proofs.Candidates.{known}
+use Rattle.envelope.proofs.Ground.{on_sheet, turn_within, of_turn}
+use Rattle.envelope.proofs.BaseWalk.{share_added, share_read}
 use Rattle.envelope.proofs.prepared.Prepared.base.Goals as goal
-
-pub loop-entry-init : goal.loop-entry-init
-loop-entry-init g c = c.zero-total.ensures
 
 pub offset_bounds-self-entry : goal.offset_bounds-self-entry
 offset_bounds-self-entry g c =
@@ -19,17 +23,17 @@ bounds-self-entry g c =
 
 pub loop-entry-preserved : goal.loop-entry-preserved
 loop-entry-preserved g c =
-    let met = g.met.E.Effect in
-    let prepared = c.args.self.now in
-    let case = prepared.case.now in
-    let i = c.loop-entry.entry-index in
-    let set = setting met.closed met.laws case.sheet.now _ case.effects.now (g.met.R.Rulebook.laws case.book.now) case.supplied in
-    let adds = share_read met.closed met.laws _ _ _ set c.args.form c.of-parts.result case.entries.now i prepared.masks.now _ case.laid c.loop-entry-test.true prepared.full c.of-parts.ensures.own c.share_of-share.ensures in
-    share_added met.closed met.laws _ _ _ set c.args.form case.entries.now i _ _ _ case.laid c.loop-entry-test.true c.loop-entry.invariant adds c.sum-total.ensures
-
-pub returns : goal.returns
-returns g c =
+    let e = g.E.Effect in
     let met = g.met.E.Effect in
     let case = c.args.self.now.case.now in
-    let set = setting met.closed met.laws case.sheet.now _ case.effects.now (g.met.R.Rulebook.laws case.book.now) case.supplied in
-    base_done met.closed met.laws _ _ _ set c.args.form case.entries.now c.loop-entry.entry-index _ case.laid c.loop-entry-test.false c.loop-entry.invariant
+    let s : Content = content case.sheet.now in
+    let b : Book = g.R.Rulebook.meaning case.book.now in
+    let list = case.entries.now in
+    let i = c.loop-entry.entry-index in
+    let test = c.loop-entry-test.true in
+    let set = on_sheet met.closed met.laws case.sheet.now b case.effects.now (g.met.R.Rulebook.laws case.book.now) case.supplied in
+    let adds = base_share e.count e.reaches s b (map e.components case.effects.now) c.args.form in
+    let share = share_read met.closed met.laws _ _ _ set c.args.form (get_or list i nowhere) c.of-parts.result c.args.self.now.masks.now _ (of_turn s _ list i case.laid test (known met.closed met.laws _ _ _ set 4095))
+    (of_turn s _ list i case.laid test (known met.closed met.laws _ _ _ set 0)) c.args.self.now.full c.of-parts.ensures.own c.share_of-share.ensures in
+    share_added met.closed met.laws _ _ _ set c.args.form list i (get_or list i nowhere) _ _ _ case.laid (of_turn s _ list i case.laid test (owned met.closed met.laws _ _ _ set)) c.loop-entry.invariant share c.sum-total.ensures
+    ∙ ap (λ d. exact_total e.count (map adds d)) (sym (take_more list i nowhere test))

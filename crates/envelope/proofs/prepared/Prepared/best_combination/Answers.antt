@@ -5,7 +5,7 @@ use Rattle.envelope.specs.declared.report.Candidate.{Candidate}
 use Rattle.envelope.specs.Reported.{with_chosen}
 use Rattle.envelope.specs.Layout.{both_halves}
 use Rattle.envelope.specs.Forms.{BestAmong}
-use Rattle.envelope.proofs.Ground.{setting}
+use Rattle.envelope.proofs.Ground.{on_sheet}
 use Rattle.envelope.proofs.Forms.{Found, found_first, found_keeps, found_takes, rest_same}
 use Rattle.envelope.proofs.prepared.Prepared.best_combination.Goals as goal
 use Rattle.envelope.proofs.prepared.Prepared.best_combination.Goals.{then-not-at_or_above, else-not-at_or_above}
@@ -18,7 +18,7 @@ loop-form-init g c =
     let met = g.met.E.Effect in
     let e = g.E.Effect in
     let best = c.best_in_form-best in
-    let set = setting met.closed met.laws c.args.self.now.case.now.sheet.now _ c.args.self.now.case.now.effects.now (g.met.R.Rulebook.laws c.args.self.now.case.now.book.now) c.args.self.now.case.now.supplied in
+    let set = on_sheet met.closed met.laws c.args.self.now.case.now.sheet.now _ c.args.self.now.case.now.effects.now (g.met.R.Rulebook.laws c.args.self.now.case.now.book.now) c.args.self.now.case.now.supplied in
     let h = found_first met.closed met.laws _ _ _ set best.result.form best.result.leader best.result.set (e.components best.result.effect) best.ensures.form (best.ensures.best, best.ensures.effect) in
     (h.0, h.1, best.ensures.halves ∙ ap (λ r. both_halves e.count (map e.components c.args.self.now.case.now.effects.now) c.args.self.now.masks.now ((g.R.Rulebook.meaning c.args.self.now.case.now.book.now).form 0) (content c.args.self.now.case.now.sheet.now) ++ r) (sym (rest_same e.components best.new.strip c.args.strip.now best.ensures.rest)), refl)
 
@@ -39,7 +39,7 @@ loop-form-preserved g c =
     let best = c.loop-form.best in
     let other = c.best_in_form-other in
     let o = other.result in
-    let set = setting met.closed met.laws c.args.self.now.case.now.sheet.now _ c.args.self.now.case.now.effects.now (g.met.R.Rulebook.laws c.args.self.now.case.now.book.now) c.args.self.now.case.now.supplied in
+    let set = on_sheet met.closed met.laws c.args.self.now.case.now.sheet.now _ c.args.self.now.case.now.effects.now (g.met.R.Rulebook.laws c.args.self.now.case.now.book.now) c.args.self.now.case.now.supplied in
     let inv = c.loop-form.invariant in
     let begun = c.best_in_form-best.new.strip in
     let strip : map e.components other.new.strip ≡ both_halves e.count xss c.args.self.now.masks.now (b.form (k + 1 - 1)) s ++ drop 24 (map e.components begun) =

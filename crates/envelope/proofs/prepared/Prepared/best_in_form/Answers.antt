@@ -2,7 +2,7 @@ use Rattle.std.proofs.Common.{◌≤◌, map, length, drop, refl, mul-le-mul_rig
 use Rattle.sheet.specs.Content.{content}
 use Rattle.sheet.proofs.Marks.{marks_symmetric}
 use Rattle.sheet.proofs.Laws.{sound_from}
-use Rattle.envelope.proofs.Ground.{setting}
+use Rattle.envelope.proofs.Ground.{on_sheet}
 use Rattle.envelope.proofs.InForm.{form_searchable, form_place, form_set, form_best}
 use Rattle.envelope.proofs.prepared.Prepared.best_in_form.Goals as goal
 
@@ -10,7 +10,7 @@ pub best_set-peak-requires : goal.best_set-peak-requires
 best_set-peak-requires g c =
     let met = g.met.E.Effect in
     form_searchable met.closed met.laws (content c.args.self.now.case.now.sheet.now) (g.R.Rulebook.meaning c.args.self.now.case.now.book.now) (map g.E.Effect.components c.args.self.now.case.now.effects.now)
-    (setting met.closed met.laws c.args.self.now.case.now.sheet.now _ c.args.self.now.case.now.effects.now (g.met.R.Rulebook.laws c.args.self.now.case.now.book.now) c.args.self.now.case.now.supplied) c.args.self.now.case.now.sheet.now.limited.2 c.args.form
+    (on_sheet met.closed met.laws c.args.self.now.case.now.sheet.now _ c.args.self.now.case.now.effects.now (g.met.R.Rulebook.laws c.args.self.now.case.now.book.now) c.args.self.now.case.now.supplied) c.args.self.now.case.now.sheet.now.limited.2 c.args.form
     c.fill_strip.new.strip (drop 24 (map g.E.Effect.components c.args.strip.now)) c.args.self.now.masks.now c.args.self.now.roster.now c.has_leader-leads.result c.base-base.result
     c.args.self.now.full c.args.self.now.placed c.fill_strip.ensures.halves c.has_leader-leads.ensures c.base-base.ensures
 
@@ -18,7 +18,7 @@ pub leader_number-requires : goal.leader_number-requires
 leader_number-requires g c =
     let met = g.met.E.Effect in
     form_place met.closed met.laws (content c.args.self.now.case.now.sheet.now) (g.R.Rulebook.meaning c.args.self.now.case.now.book.now) (map g.E.Effect.components c.args.self.now.case.now.effects.now)
-    (setting met.closed met.laws c.args.self.now.case.now.sheet.now _ c.args.self.now.case.now.effects.now (g.met.R.Rulebook.laws c.args.self.now.case.now.book.now) c.args.self.now.case.now.supplied) c.args.self.now.case.now.sheet.now.limited.2 c.args.form
+    (on_sheet met.closed met.laws c.args.self.now.case.now.sheet.now _ c.args.self.now.case.now.effects.now (g.met.R.Rulebook.laws c.args.self.now.case.now.book.now) c.args.self.now.case.now.supplied) c.args.self.now.case.now.sheet.now.limited.2 c.args.form
     c.fill_strip.new.strip (drop 24 (map g.E.Effect.components c.args.strip.now)) c.args.self.now.masks.now c.args.self.now.roster.now c.has_leader-leads.result c.base-base.result
     c.args.self.now.full c.args.self.now.placed c.fill_strip.ensures.halves c.has_leader-leads.ensures c.base-base.ensures c.best_set-peak.result.leader c.best_set-peak.ensures.best.may_lead
 
@@ -27,11 +27,11 @@ set_number-requires g c =
     let met = g.met.E.Effect in
     record {
       place = form_place met.closed met.laws (content c.args.self.now.case.now.sheet.now) (g.R.Rulebook.meaning c.args.self.now.case.now.book.now) (map g.E.Effect.components c.args.self.now.case.now.effects.now)
-          (setting met.closed met.laws c.args.self.now.case.now.sheet.now _ c.args.self.now.case.now.effects.now (g.met.R.Rulebook.laws c.args.self.now.case.now.book.now) c.args.self.now.case.now.supplied) c.args.self.now.case.now.sheet.now.limited.2 c.args.form
+          (on_sheet met.closed met.laws c.args.self.now.case.now.sheet.now _ c.args.self.now.case.now.effects.now (g.met.R.Rulebook.laws c.args.self.now.case.now.book.now) c.args.self.now.case.now.supplied) c.args.self.now.case.now.sheet.now.limited.2 c.args.form
           c.fill_strip.new.strip (drop 24 (map g.E.Effect.components c.args.strip.now)) c.args.self.now.masks.now c.args.self.now.roster.now c.has_leader-leads.result c.base-base.result
           c.args.self.now.full c.args.self.now.placed c.fill_strip.ensures.halves c.has_leader-leads.ensures c.base-base.ensures c.best_set-peak.result.leader c.best_set-peak.ensures.best.may_lead;
       set = form_set met.closed met.laws (content c.args.self.now.case.now.sheet.now) (g.R.Rulebook.meaning c.args.self.now.case.now.book.now) (map g.E.Effect.components c.args.self.now.case.now.effects.now)
-          (setting met.closed met.laws c.args.self.now.case.now.sheet.now _ c.args.self.now.case.now.effects.now (g.met.R.Rulebook.laws c.args.self.now.case.now.book.now) c.args.self.now.case.now.supplied) c.args.self.now.case.now.sheet.now.limited.2 c.args.form
+          (on_sheet met.closed met.laws c.args.self.now.case.now.sheet.now _ c.args.self.now.case.now.effects.now (g.met.R.Rulebook.laws c.args.self.now.case.now.book.now) c.args.self.now.case.now.supplied) c.args.self.now.case.now.sheet.now.limited.2 c.args.form
           c.fill_strip.new.strip (drop 24 (map g.E.Effect.components c.args.strip.now)) c.args.self.now.masks.now c.args.self.now.roster.now c.has_leader-leads.result c.base-base.result
           c.args.self.now.full c.args.self.now.placed c.fill_strip.ensures.halves c.has_leader-leads.ensures c.base-base.ensures c.best_set-peak.result.set c.best_set-peak.ensures.best.numbered;
     }
@@ -42,7 +42,7 @@ returns g c =
     let sheet = c.args.self.now.case.now.sheet.now in
     let sound = sound_from (content sheet) sheet.limited sheet.formed sheet.paired (marks_symmetric sheet.marks) in
     let h = form_best met.closed met.laws (content sheet) (g.R.Rulebook.meaning c.args.self.now.case.now.book.now) (map g.E.Effect.components c.args.self.now.case.now.effects.now)
-    (setting met.closed met.laws sheet _ c.args.self.now.case.now.effects.now (g.met.R.Rulebook.laws c.args.self.now.case.now.book.now) c.args.self.now.case.now.supplied) sheet.limited.2 c.args.form
+    (on_sheet met.closed met.laws sheet _ c.args.self.now.case.now.effects.now (g.met.R.Rulebook.laws c.args.self.now.case.now.book.now) c.args.self.now.case.now.supplied) sheet.limited.2 c.args.form
     c.fill_strip.new.strip (drop 24 (map g.E.Effect.components c.args.strip.now)) c.args.self.now.masks.now c.args.self.now.roster.now c.has_leader-leads.result c.base-base.result
     c.args.self.now.full c.args.self.now.placed c.fill_strip.ensures.halves c.has_leader-leads.ensures c.base-base.ensures
     c.args.self.now.hand c.requires.one sound.symmetric sound.irreflexive

@@ -1,12 +1,13 @@
 use Rattle.std.proofs.Common.{ℕ, ◌<◌, List, map, length, get_or, ℤ, sym, ap, ◌∙◌, arith, rules}
+use Rattle.std.proofs.lemmas.List.{map-set}
 use Rattle.effects.specs.Components.{zeros}
 use Rattle.sheet.specs.Content.{content}
 use Rattle.envelope.specs.declared.entry.Entry.{Entry}
-use Rattle.envelope.specs.Layout.{role_factor, contribution_by}
 use Rattle.envelope.specs.Entries.{nowhere}
+use Rattle.envelope.specs.Layout.{role_factor, contribution_by}
 use Rattle.envelope.proofs.Filling.{contributed, made_alike}
-use Rattle.envelope.proofs.Walk.{as_many, number_at, place_below, placed_all, placed_no}
-use Rattle.envelope.proofs.Filling.{filled_yes}
+use Rattle.envelope.proofs.Ground.{turn_within}
+use Rattle.envelope.proofs.Walk.{place_below, placed_all, placed_no, placed_yes}
 use Rattle.envelope.proofs.prepared.Prepared.fill.Goals as goal
 use Rattle.envelope.proofs.prepared.Prepared.fill.Goals.{then-is_variable, else-is_variable}
 
@@ -18,12 +19,12 @@ loop-entry-init g c =
 pub offset_bounds-self-entry : goal.offset_bounds-self-entry
 offset_bounds-self-entry g c =
     let s = c.args.self.now.case.now.sheet.now in
-    omega (arith, number_at (content s) c.args.self.now.case.now.entries.now c.args.self.now.case.now.laid c.loop-entry.entry-index (omega arith), as_many (content s) c.args.self.now.case.now.entries.now c.args.self.now.case.now.laid, s.limited.1)
+    omega (arith, turn_within (content s) c.args.self.now.case.now.entries.now c.loop-entry.entry-index c.args.self.now.case.now.laid s.limited.1 (omega arith))
 
 pub bounds-self-entry : goal.bounds-self-entry
 bounds-self-entry g c =
     let s = c.args.self.now.case.now.sheet.now in
-    omega (arith, number_at (content s) c.args.self.now.case.now.entries.now c.args.self.now.case.now.laid c.loop-entry.entry-index (omega arith), as_many (content s) c.args.self.now.case.now.entries.now c.args.self.now.case.now.laid, s.limited.1)
+    omega (arith, turn_within (content s) c.args.self.now.case.now.entries.now c.loop-entry.entry-index c.args.self.now.case.now.laid s.limited.1 (omega arith))
 
 pub bounds-half-entry : goal.bounds-half-entry
 bounds-half-entry g c =
@@ -51,7 +52,8 @@ loop-entry-preserved g c =
       | then-is_variable w ↦
           let r = w.contribution.result in
           ap (map k.components) w.half-is
-          ∙ filled_yes k.components k.count f (content s) list c.args.self.now.case.now.laid i half r s.limited.2 (omega arith) (sym c.is_variable.ensures ∙ w.if-is_variable.true)
+          ∙ map-set k.components half _ r
+          ∙ placed_yes f (zeros k.count) (content s) list c.args.self.now.case.now.laid i (map k.components half) s.limited.2 (omega arith) (sym c.is_variable.ensures ∙ w.if-is_variable.true) (k.components r)
           (contributed k.count (map k.components es) masks factor e w.of-parts.result w.factor_of-factor.result.units (k.components r) w.of-parts.ensures.own w.factor_of-factor.ensures w.contribution.ensures)
           c.loop-entry.invariant
       | else-is_variable w ↦
@@ -61,6 +63,5 @@ loop-entry-preserved g c =
 
 pub returns : goal.returns
 returns g c =
-    let k = g.E.Effect in
-    placed_all (contribution_by k.count (map k.components c.args.self.now.case.now.effects.now) c.args.self.now.masks.now (λ e. role_factor ((g.R.Rulebook.meaning c.args.self.now.case.now.book.now).form c.args.form) c.args.role e.action.category))
-    (zeros k.count) (content c.args.self.now.case.now.sheet.now) c.args.self.now.case.now.entries.now c.args.self.now.case.now.laid c.loop-entry.entry-index (map k.components c.loop-entry.half) (omega arith) c.loop-entry.invariant
+    let case = c.args.self.now.case.now in
+    placed_all _ _ (content case.sheet.now) case.entries.now case.laid c.loop-entry.entry-index _ (omega arith) c.loop-entry.invariant

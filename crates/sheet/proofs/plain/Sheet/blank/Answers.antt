@@ -2,7 +2,7 @@ use Rattle.std.proofs.Common.{◌≡◌, ℕ, Bool, false, List, replicate, vec_
 use Rattle.std.proofs.lemmas.Bool.{true≢false}
 use Rattle.sheet.specs.declared.action.Action.{Action}
 use Rattle.sheet.specs.Limits.{Limited, Formed, marked_in}
-use Rattle.sheet.proofs.Marks.{same_content, none_marked}
+use Rattle.sheet.proofs.Marks.{none_marked}
 use Rattle.sheet.proofs.plain.Sheet.blank.Goals as goal
 
 unmarked : (rows : List (List Bool)) → rows ≡ replicate 32 (replicate 32 false) → (a b : ℕ) → marked_in rows a b ≡ false
@@ -15,6 +15,3 @@ invariant_of-result c =
     let L : List Action → Type 0 = λ xs. Limited (vec_capacity v) xs in
     let F : List Action → Type 0 = λ xs. Formed xs in
     record { limited = subst L (sym made.items) (made.capacity, lit≤ tt, lit≤ tt, lit≤ tt); formed = subst F (sym made.items) (λ i h. absurd (omega arith)); paired = (λ a b m. absurd (true≢false (sym m ∙ unmarked c.no_marks.result c.no_marks.ensures a b))) }
-
-pub returns : goal.returns
-returns c = same_content c.in_ok-actions.ensures.items (unmarked c.no_marks.result c.no_marks.ensures)

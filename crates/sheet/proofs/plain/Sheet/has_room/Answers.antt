@@ -11,6 +11,6 @@ returns c =
     let n : c.len.result ≡ length xs = search rules in
     let v : c.count_variable.result ≡ variables xs = c.count_variable.ensures ∙ ap variables c.deref.ensures.value in
     let p : c.count_parts.result ≡ parts_in xs = c.count_parts.ensures ∙ ap parts_in c.deref-2.ensures.value in
-    let o : c.if-is_variable.one ≡ cond (is_variable x.kind) 1 0 = search rules in
+    let o : c.from.result ≡ cond (is_variable x.kind) 1 0 = search rules in
     let l = limits_push xs x in
     cc

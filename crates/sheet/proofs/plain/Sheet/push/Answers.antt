@@ -1,17 +1,8 @@
 use Rattle.std.proofs.Common.{◌≤◌, List, [], ◌∷◌, ◌++◌, vec_items, vec_capacity, sym, subst, arith}
-use Rattle.std.proofs.lemmas.List.{length_push}
 use Rattle.sheet.specs.declared.action.Action.{Action}
 use Rattle.sheet.specs.Limits.{Limited, Formed, Paired, marked_in}
 use Rattle.sheet.proofs.Keeping.{limited, formed_push, paired_push}
 use Rattle.sheet.proofs.plain.Sheet.push.Goals as goal
-
-pub push_reserved-requires : goal.push_reserved-requires
-push_reserved-requires c =
-    let s = c.args.self.now in
-    let xs = vec_items s.actions in
-    let x = c.args.action in
-    let k = limited (vec_capacity s.actions) (xs ++ x ∷ []) s.limited.0 c.requires.room in
-    omega (arith, k.1, length_push xs x, s.actions.ok.0, s.limited.0)
 
 pub invariant_of-self : goal.invariant_of-self
 invariant_of-self c =

@@ -11,11 +11,9 @@ pub fn total_of<E: Effect>(effects: &[E]) -> E
     ensures value { E.components result ≡ total E.count (map E.components effects.now) }
     ensures exact { Supply (map E.components effects.now) → E.components result ≡ exact_total E.count (map E.components effects.now) }
 {
-    let mut total = E::zero();
-    for effect in effects {
-        total = total.sum(*effect);
-    }
-    total
+    effects
+        .iter()
+        .fold(E::zero(), |total, effect| total.sum(*effect))
 }
 
 // The place of the greatest of a list of effects, the lowest where there are several.

@@ -21,14 +21,13 @@ pub fn greatest<E: Effect>(effects: &[E]) -> Option<usize>
     ensures value { result ≡ greatest_of E.reaches (map E.components effects.now) }
     ensures first { AllByRecursion Large (map E.components effects.now) → MatchOption result (length effects.now ≡ 0) (λ b. Greatest E.reaches (map E.components effects.now) (length effects.now) b) }
 {
-    if effects.is_empty() {
-        return None;
-    }
-    let mut best = 0;
-    for i in 1..effects.len() {
-        if !effects[best].at_or_above(effects[i]) {
-            best = i;
-        }
-    }
-    Some(best)
+    effects
+        .iter()
+        .enumerate()
+        .reduce(|best, next| if best.1.at_or_above(*next.1) {
+            best
+        } else {
+            next
+        })
+        .map(|(place, _)| place)
 }

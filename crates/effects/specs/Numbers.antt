@@ -1,9 +1,8 @@
 -- One component: where it does not stop, and what the order keeps.
-use Rattle.std.specs.Prelude.{◌≡◌, ℕ, ◌+◌, ◌*◌, ◌^◌, ◌<◌, ◌≤◌, ◌⊎◌, ℤ, pos, negsuc, ◌+ℤ◌, ◌*ℤ◌, ◌≤ℤ◌, ◌<ℤ◌, FitsSigned, unsigned_abs, refl}
-use Rattle.std.proofs.Common.{inl, inr, mul-le-mul, mul-le-mul_left, add-mul, mul-add, arith}
+use Rattle.std.specs.Prelude.{◌≡◌, ℕ, ◌+◌, ◌*◌, ◌<◌, ◌≤◌, ◌⊎◌, ℤ, pos, negsuc, ◌+ℤ◌, ◌*ℤ◌, ◌≤ℤ◌, ◌<ℤ◌, unsigned_abs, refl}
+use Rattle.std.proofs.Common.{inl, inr, mul-le-mul_left, add-mul, mul-add, arith}
 use Rattle.std.proofs.Math.Nat.{mul-lt-mul_of_pos_left}
-use Rattle.std.specs.Int.{w64, w128}
-use borrow.Author.Differences.{up, down, fits_in, abs_is}
+use borrow.Author.Differences.{up, down}
 use Rattle.std.proofs.lemmas.Int.{ints, clamps, by_lt_z}
 use Rattle.effects.specs.Components.{stopped}
 
@@ -16,9 +15,6 @@ sum_size x y m n h k = omega (arith, ints)
 pub product_size : (f : ℕ) (x : ℤ) → unsigned_abs (pos f *ℤ x) ≡ f * unsigned_abs x
 product_size f (pos n) = refl
 product_size f (negsuc n) = omega (arith, ints)
-
-pub product_le : (f : ℕ) (x : ℤ) (k m : ℕ) → f ≤ k → unsigned_abs x ≤ m → unsigned_abs (pos f *ℤ x) ≤ k * m
-product_le f x k m h j = omega (arith, product_size f x, mul-le-mul h j)
 
 -- a factor in two parts
 pub product_split : (f g : ℕ) (x : ℤ) → pos (f + g) *ℤ x ≡ pos f *ℤ x +ℤ pos g *ℤ x
@@ -46,11 +42,3 @@ pub ≤-total : (x y : ℤ) → (x ≤ℤ y) ⊎ (y ≤ℤ x)
 -- less, equal or greater
 pub by_order : {P : Type 0} (x y : ℤ) → (x <ℤ y → P) → (x ≡ y → P) → (y <ℤ x → P) → P
 by_order x y l e g = by_lt_z x y l (λ h. by_lt_z y x g (λ k. e (omega (arith, ints))))
-
--- a 64-bit component times a 32-bit factor, at 128 bits
-pub product_fits : (f : ℕ) (x : ℤ) → f < 2 ^ 32 → FitsSigned w64 x → FitsSigned w128 (pos f *ℤ x)
-product_fits f x h k =
-    let a : unsigned_abs x ≤ 2 ^ 63 = omega (arith, ints) in
-    let b : unsigned_abs (pos f *ℤ x) ≤ 2 ^ 32 * 2 ^ 63 = product_le f x (2 ^ 32) (2 ^ 63) (omega arith) a in
-    let c : unsigned_abs (pos f *ℤ x) < 2 ^ 100 = omega arith in
-    fits_in w128 (pos f *ℤ x) (omega (arith, abs_is (pos f *ℤ x)))

@@ -70,10 +70,22 @@ module _ (m k : ℕ) (K : 0 < k) (W : k < 64) where
   one_shifted : (1 * 2 ^ k) % 2 ^ 64 ≡ 2 ^ k
   one_shifted = one_shl k 64 W
 
-  pub rest-is : bit_and m ((1 * 2 ^ k) % 2 ^ 64 - 1) ≡ m % 2 ^ k
+  rest-is : bit_and m ((1 * 2 ^ k) % 2 ^ 64 - 1) ≡ m % 2 ^ k
   rest-is = ap (λ (j : ℕ). bit_and m (j - 1)) one_shifted ∙ and_mask m k
 
-  pub half_is : (1 * 2 ^ (k - 1)) % 2 ^ 64 * 2 ≡ 2 ^ k
+  half_is : (1 * 2 ^ (k - 1)) % 2 ^ 64 * 2 ≡ 2 ^ k
   half_is =
       let p : k - 1 + 1 ≡ k = omega arith in
       ap (λ (j : ℕ). j * 2) (one_shl (k - 1) 64 (omega arith)) ∙ sym (pow-add 2 (k - 1) 1) ∙ ap (λ (j : ℕ). 2 ^ j) p
+
+  pub rest_below : bit_and m ((1 * 2 ^ k) % 2 ^ 64 - 1) < (1 * 2 ^ (k - 1)) % 2 ^ 64 → nearest m (2 ^ k) ≡ m / 2 ^ k
+  rest_below h = closer_below (m / 2 ^ k) (m % 2 ^ k) (2 ^ k) (omega (arith, rest-is, half_is))
+
+  pub rest_half : bit_and m ((1 * 2 ^ k) % 2 ^ 64 - 1) ≡ (1 * 2 ^ (k - 1)) % 2 ^ 64 → nearest m (2 ^ k) ≡ tie (m / 2 ^ k)
+  rest_half h = closer_half (m / 2 ^ k) (m % 2 ^ k) (2 ^ k) (omega (arith, rest-is, half_is))
+
+  pub rest_above : (1 * 2 ^ (k - 1)) % 2 ^ 64 < bit_and m ((1 * 2 ^ k) % 2 ^ 64 - 1) → nearest m (2 ^ k) ≡ suc (m / 2 ^ k)
+  rest_above h = closer_above (m / 2 ^ k) (m % 2 ^ k) (2 ^ k) (omega (arith, rest-is, half_is))
+
+-- the nearest by the remainder and the half
+pub ruleset by_rest = (rest_below, rest_half, rest_above)

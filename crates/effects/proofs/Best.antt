@@ -6,14 +6,15 @@ use lib.ListN.{length-map}
 use Rattle.std.specs.List.{AllByRecursion as All}
 use Rattle.std.specs.Fn.{Called}
 use Rattle.std.specs.Iterator.{Drains, ReducesItems}
-use Rattle.std.specs.Iterator.Adapters.{enumerate_steps}
+use Rattle.std.specs.Iterator.Adapters.{enumerate_count, enumerate_source, enumerate_steps}
+use Rattle.std.specs.Slice.Iter.{iter_rest}
 use Rattle.std.specs.List.{enumerate_from, reduce}
 use Rattle.std.specs.Option.{option_map}
 use Rattle.std.specs.declared.slice.Iter.{Iter}
 use Rattle.std.specs.declared.iter.Enumerate.{Enumerate}
 use Rattle.std.proofs.lemmas.Fn.{fold_same, fronts}
-use Rattle.std.proofs.lemmas.Iterator.{YieldsList}
-use Rattle.std.proofs.lemmas.Iterator.Consumers.{YieldsList-end}
+use Rattle.std.proofs.lemmas.Iterator.{YieldsList, YieldsList-from_slice}
+use Rattle.std.proofs.lemmas.Iterator.Consumers.{YieldsList-end, YieldsList-from_enumerate}
 use Rattle.std.proofs.lemmas.List.{map_push, drop_more}
 use Rattle.std.proofs.lemmas.List.Sums.{fold_push}
 use Rattle.std.proofs.ByRecursion.{All-get_or}
@@ -114,9 +115,8 @@ reduced : {E F : Type 0} (h : ℕ × E → ℕ × E → ℕ × E) {g : Mut F ((�
 reduced h None ran yields acts = ap (reduce h) (drained [] yields ran)
 reduced {E} h {g} {f} (Some y) ran yields acts =
     let x = ran.0 in
-    let J : List (ℕ × Bor E) → ℕ × Bor E → Type 0 = λ ps b. read b ≡ fold h (read x) (map read ps) in
-    let total : J ran.1 y =
-    fold_same g J f (λ ps b n t f' so call. let one = acts b n t f' call in (simp (map_push, fold_push) (one.0 ∙ ap (λ k. h k (read n)) so), one.1)) ran.1 x y ran.2 refl ran.4 in
+    let total : read y ≡ fold h (read x) (map read ran.1) =
+    fold_same g (λ ps b. read b ≡ fold h (read x) (map read ps)) f (λ ps b n t f' so call. let one = acts b n t f' call in (simp (map_push, fold_push) (cc), one.1)) ran.1 x y ran.2 refl ran.4 in
     ap Some total ∙ ap (reduce h) (drained (x ∷ ran.1) yields ran.3)
 
 place_of : {E : Type 0} (r : Option (ℕ × Bor E)) → option_map (λ p. p.0) r ≡ option_map (λ p. p.0) (option_map read r)
@@ -130,17 +130,15 @@ module _ {E : Type 0} (components : E → List ℤ) (reaches : List ℤ → List
 
   picked : (es : List E) (i : ℕ) (b : ℕ × E) → (fold pick b (enumerate_from i es)).0 ≡ greatest_from reaches (components b.1) b.0 i (map components es)
   picked [] i b = refl
-  picked (x ∷ es) i b =
-      let here : (t : Bool) → (fold pick (cond t b (i, x)) (enumerate_from (i + 1) es)).0 ≡ cond t (greatest_from reaches (components b.1) b.0 (i + 1) (map components es)) (greatest_from reaches (components x) i (i + 1) (map components es)) =
-      elim [ true ↦ picked es (i + 1) b | false ↦ picked es (i + 1) (i, x) ] in
-      here (reaches (components b.1) (components x))
+  picked (x ∷ es) i b = grind (arith, picked es (i + 1) b, picked es (i + 1) (i, x))
 
   reduced_place : (es : List E) → option_map (λ p. p.0) (reduce pick (enumerate_from 0 es)) ≡ greatest_of reaches (map components es)
   reduced_place [] = refl
   reduced_place (x ∷ es) = ap Some (picked es 1 (0, x))
 
-  pub greatest_place : {F : Type 0} (es : List E) (r : Option (ℕ × Bor E)) {g : Mut F ((ℕ × Bor E) × ((ℕ × Bor E) × Unit {0})) (ℕ × Bor E)} {f : F} {s : Enumerate (Iter E)}
-      → ReducesItems (enumerate_steps fronts) g s f r → YieldsList (enumerate_steps fronts) read s (enumerate_from 0 es)
+  pub greatest_place : {F : Type 0} (es : List E) (s : Enumerate (Iter E)) (r : Option (ℕ × Bor E)) {g : Mut F ((ℕ × Bor E) × ((ℕ × Bor E) × Unit {0})) (ℕ × Bor E)} {f : F}
+      → ReducesItems (enumerate_steps fronts) g s f r → iter_rest (enumerate_source s) ≡ es → enumerate_count s ≡ 0
       → ((b n t : ℕ × Bor E) (f' : F) → Called g f (b, (n, tt)) t f' → (read t ≡ pick (read b) (read n)) × (f' ≡ f))
       → option_map (λ p. p.0) r ≡ greatest_of reaches (map components es)
-  greatest_place es r ran yields acts = place_of r ∙ ap (option_map (λ p. p.0)) (reduced pick r ran yields acts) ∙ reduced_place es
+  greatest_place es s r ran rest start acts =
+      place_of r ∙ ap (option_map (λ p. p.0)) (reduced pick r ran (YieldsList-from_enumerate (YieldsList-from_slice es rest) start) acts) ∙ reduced_place es

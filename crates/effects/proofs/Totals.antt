@@ -1,13 +1,14 @@
 -- The sum of a supply stops nowhere.
-use Rattle.std.proofs.Common.{◌≡◌, ℕ, zero, suc, ◌+◌, ◌*◌, ◌≤◌, List, [], ◌∷◌, ◌++◌, map, length, ℤ, fold, Bor, sym, refl, ap, ◌∙◌, subst, suc-mul, arith}
+use Rattle.std.proofs.Common.{◌≡◌, ℕ, zero, suc, ◌+◌, ◌*◌, ◌≤◌, List, [], ◌∷◌, map, length, ℤ, fold, Bor, sym, refl, ap, ◌∙◌, suc-mul, arith}
 use denote.Param.Members.{Mut}
 use lib.IntN.{+ℤ_assoc, +ℤ_idr}
 use lib.ListN.{length-replicate}
 use Rattle.std.specs.Fn.{Called}
-use Rattle.std.specs.Iterator.{AlwaysYields, FoldsItems}
+use Rattle.std.specs.Iterator.{FoldsItems}
 use Rattle.std.specs.Slice.Iter.{iter_rest}
 use Rattle.std.specs.declared.slice.Iter.{Iter}
-use Rattle.std.proofs.lemmas.Fn.{fold_over, fronts, slice_gives}
+use Rattle.std.proofs.lemmas.Fn.{fold_over, fronts}
+use Rattle.std.proofs.lemmas.Iterator.{YieldsList-from_slice}
 use Rattle.std.proofs.lemmas.List.{map_push}
 use Rattle.std.proofs.lemmas.List.Sums.{fold_push}
 use Rattle.std.specs.List.{AllByRecursion as All}
@@ -67,9 +68,6 @@ pub folded_total : {E F : Type 0} (components : E → List ℤ) (es : List E) {a
     → FoldsItems fronts g s f z r → iter_rest s ≡ es → components z ≡ a
     → ((t : E) (x : Bor E) (u : E) (f' : F) → Called g f (t, (x, tt)) u f' → (components u ≡ sum (components t) (components x.now)) × (f' ≡ f))
     → components r ≡ fold sum a (map components es)
-folded_total {E} components es {a} {r} {z} {g} {f} {s} ran rest start adds =
-    let J : List E → E → Type 0 = λ ys t. components t ≡ fold sum a (map components ys) in
-    let step : (ys : List E) (t : E) (x : Bor E) (u : E) → J ys t → components u ≡ sum (components t) (components x.now) → J (ys ++ (x.now ∷ [])) u =
-    λ ys t x u so one. simp (map_push, fold_push) (one ∙ ap (λ xs. sum xs (components x.now)) so) in
-    fold_over fronts (λ y. y.now) g J f (λ ys t x u f' so call. let one = adds t x u f' call in (step ys t x u so one.0, one.1)) s es z r
-    (subst (AlwaysYields fronts (λ y. y.now) s) rest (slice_gives s)) start ran
+folded_total components es {a} {r} {z} {g} {f} {s} ran rest start adds =
+    fold_over fronts (λ y. y.now) g (λ ys t. components t ≡ fold sum a (map components ys)) f
+    (λ ys t x u f' so call. let one = adds t x u f' call in (simp (map_push, fold_push) (cc), one.1)) s es z r (YieldsList-from_slice es rest).runs start ran

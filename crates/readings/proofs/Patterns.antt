@@ -1,5 +1,8 @@
 -- A float that is read: its range by two comparisons, and its value by its pattern's sign, exponent and digits.
-use Rattle.std.proofs.Common.{to_z, of_z, w64, ◌-ℤ◌, ◌≡◌, ℕ, zero, suc, ◌+◌, ◌-◌, ◌*◌, ◌/◌, ◌%◌, ◌^◌, ◌<◌, ◌≤◌, Bool, true, false, cond, not, ◌&&◌, ◌||◌, T, eqb, ltb, leb, pos, neg_ℤ, sym, refl, ap, ◌∙◌, subst, inl, inr, le_trans, le_of_eq, lt_of_lt_of_le, le-add_right, lt_of_le_of_lt, lt_irrefl, mul-le-mul_right, mod-lt, lt_of_not-le, mul-one, le_of_mul-le-mul_right, arith, leb→le, pow_pos, pow_mono, pow-add, shl_lt, le-ltb, lt-ltb, eq-eqb, ne_eqb, le-leb}
+use Rattle.std.proofs.Common.{to_z, of_z, w64, ◌-ℤ◌, ◌≡◌, ℕ, zero, suc, ◌+◌, ◌-◌, ◌*◌, ◌/◌, ◌%◌, ◌^◌, ◌<◌, ◌≤◌, Bool, true, false, cond, not, ◌&&◌, ◌||◌, T, eqb, ltb, leb, pos, neg_ℤ, sym, refl, ap, ◌∙◌, subst, inl, inr, le_trans, le_of_eq, lt_of_lt_of_le, le-add_right, lt_of_le_of_lt, lt_irrefl, mul-le-mul_right, mod-lt, lt_of_not-le, mul-one, le_of_mul-le-mul_right, arith, leb→le, pow_pos, pow_mono, pow-add, shl_lt, lt-ltb, eq-eqb, ne_eqb, le-leb}
+use Rattle.std.proofs.Math.Bool.{and-true}
+use Rattle.std.proofs.lemmas.Bool.{cases_order}
+use Rattle.std.proofs.lemmas.Bool.Decides.{nat_tests}
 use Rattle.std.proofs.lemmas.Int.{ints}
 use lib.Bits.{bit_and, bit_or, and_mask, or_shifted_r}
 use lib.Pow.{field}
@@ -10,7 +13,7 @@ use lib.Ieee.Bits.{of_bits-to_bits, to_bits-lt}
 use lib.Ieee.Compare.{differs_from_itself}
 use lib.Ieee.Exact.{HasValue, odd_sign}
 use Rattle.readings.specs.Nearest.{finite, negative, size, unit, readable, whole_of, signed, nearest}
-use Rattle.readings.proofs.Rounding.{order, nearest-same, nearest_zero, shifted_lt}
+use Rattle.readings.proofs.Rounding.{nearest-same, nearest_zero, shifted_lt}
 
 -- the range, by two comparisons
 
@@ -28,18 +31,7 @@ less_limit_is = refl
 
 -- a test by `<` or by `=` is one by `≤`
 joined : (a b : ℕ) (t : Bool) → (a ≡ b → t ≡ true) → (b < a → t ≡ false) → (ltb a b || (t && true)) ≡ leb a b
-joined a b t f g =
-    elim (order a b) [
-      | inl l ↦ rw (lt-ltb a b l, le-leb a b (omega arith)) refl
-      | inr o ↦ elim o [
-        | inl l ↦ rw (le-ltb a b (omega arith), f l, le-leb a b (omega arith)) refl
-        | inr l ↦ rw (le-ltb a b (omega arith), g l, lt-leb a b l) refl
-      ]
-    ]
-
-and-true : (b : Bool) → (b && true) ≡ b
-and-true true = refl
-and-true false = refl
+joined a b t f g = grind (arith, nat_tests)
 
 between : (x : Float) → (le (fin true 1953125 (pos 9)) x && le x (fin false 1953125 (pos 9))) ≡ readable x
 unfolding le
@@ -106,12 +98,9 @@ unfolding of_bits
 read_bits b t =
     let s = leb (2 ^ 63) b in
     let x = b % 2 ^ 63 / 2 ^ 52 in
-    elim (order x 2047) [
-      | inl l ↦ read s x (b % 2 ^ 52) l
-      | inr o ↦ elim o [
-        | inl l ↦ absurd (subst T (ap (λ (k : ℕ). finite (of_fields binary64 s k (b % 2 ^ 52))) l ∙ not_finite s (b % 2 ^ 52)) t)
-        | inr l ↦ absurd (omega arith)
-      ]
+    elim (cases_order x 2047) [
+      | inl l ↦ absurd (subst T (ap (λ (k : ℕ). finite (of_fields binary64 s k (b % 2 ^ 52))) l ∙ not_finite s (b % 2 ^ 52)) t)
+      | inr o ↦ elim o [ inl l ↦ read s x (b % 2 ^ 52) l | inr l ↦ absurd (omega arith) ]
     ]
 
 exponent_is : (b : ℕ) → b % 2 ^ 63 / 2 ^ 52 ≡ bit_and (b / 2 ^ 52) 2047

@@ -1,5 +1,5 @@
 -- One component: where it does not stop, and what the order keeps.
-use Rattle.std.specs.Prelude.{◌≡◌, ℕ, ◌+◌, ◌*◌, ◌<◌, ◌≤◌, ◌⊎◌, ℤ, pos, negsuc, ◌+ℤ◌, ◌*ℤ◌, ◌≤ℤ◌, ◌<ℤ◌, unsigned_abs, refl}
+use Rattle.std.specs.Prelude.{◌≡◌, ℕ, ◌+◌, ◌<◌, ◌≤◌, ◌⊎◌, ℤ, pos, ◌+ℤ◌, ◌*ℤ◌, ◌≤ℤ◌, ◌<ℤ◌, unsigned_abs}
 use Rattle.std.proofs.Common.{inl, inr, mul-le-mul_left, add-mul, mul-add, arith}
 use Rattle.std.proofs.Math.Nat.{mul-lt-mul_of_pos_left}
 use borrow.Author.Differences.{up, down}
@@ -11,10 +11,6 @@ stopped_exact z h = omega (arith, ints, clamps)
 
 pub sum_size : (x y : ℤ) (m n : ℕ) → unsigned_abs x ≤ m → unsigned_abs y ≤ n → unsigned_abs (x +ℤ y) ≤ m + n
 sum_size x y m n h k = omega (arith, ints)
-
-pub product_size : (f : ℕ) (x : ℤ) → unsigned_abs (pos f *ℤ x) ≡ f * unsigned_abs x
-product_size f (pos n) = refl
-product_size f (negsuc n) = omega (arith, ints)
 
 -- a factor in two parts
 pub product_split : (f g : ℕ) (x : ℤ) → pos (f + g) *ℤ x ≡ pos f *ℤ x +ℤ pos g *ℤ x

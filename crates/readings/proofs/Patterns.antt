@@ -1,13 +1,12 @@
 -- A float that is read: its range by two comparisons, and its value by its pattern's sign, exponent and digits.
-use Rattle.std.proofs.Common.{to_z, of_z, w64, ◌-ℤ◌, ◌≡◌, ℕ, zero, suc, ◌+◌, ◌-◌, ◌*◌, ◌/◌, ◌%◌, ◌^◌, ◌<◌, ◌≤◌, Bool, true, false, cond, not, ◌&&◌, ◌||◌, T, eqb, ltb, leb, pos, neg_ℤ, sym, refl, ap, ◌∙◌, subst, inl, inr, le_trans, le_of_eq, lt_of_lt_of_le, le-add_right, lt_of_le_of_lt, lt_irrefl, mul-le-mul_right, mod-lt, lt_of_not-le, mul-one, le_of_mul-le-mul_right, arith, leb→le, pow_pos, pow_mono, pow-add, shl_lt, lt-ltb, eq-eqb, ne_eqb, le-leb}
-use Rattle.std.proofs.Math.Bool.{and-true}
+use Rattle.std.proofs.Common.{to_z, of_z, w64, ◌-ℤ◌, ◌≡◌, ℕ, zero, suc, ◌+◌, ◌-◌, ◌*◌, ◌/◌, ◌%◌, ◌^◌, ◌<◌, ◌≤◌, Bool, true, false, cond, not, ◌&&◌, T, eqb, leb, pos, neg_ℤ, sym, refl, ap, ◌∙◌, subst, inl, inr, le_trans, le_of_eq, lt_of_lt_of_le, le-add_right, lt_of_le_of_lt, lt_irrefl, mul-le-mul_right, mod-lt, lt_of_not-le, mul-one, le_of_mul-le-mul_right, arith, leb→le, pow_pos, pow_mono, pow-add, shl_lt, ne_eqb, le-leb}
 use Rattle.std.proofs.lemmas.Bool.{cases_order}
 use Rattle.std.proofs.lemmas.Bool.Decides.{nat_tests}
 use Rattle.std.proofs.lemmas.Int.{ints}
 use lib.Bits.{bit_and, bit_or, and_mask, or_shifted_r}
 use lib.Pow.{field}
 use borrow.Author.Tests.{lt-leb}
-use lib.Ieee.{Float, nan, inf, fin, binary64, up, down, odd, le, ne, neg, is_nan, fits, of_bits, of_fields, to_bits}
+use lib.Ieee.{Float, nan, inf, fin, binary64, odd, le, ne, neg, is_nan, fits, of_bits, of_fields, to_bits}
 use lib.Ieee.Fits.{down_pos, and_l, and_r}
 use lib.Ieee.Bits.{of_bits-to_bits, to_bits-lt}
 use lib.Ieee.Compare.{differs_from_itself}
@@ -29,25 +28,13 @@ less_limit_is : neg limit ≡ fin true 1953125 (pos 9)
 unfolding of_bits neg
 less_limit_is = refl
 
--- a test by `<` or by `=` is one by `≤`
-joined : (a b : ℕ) (t : Bool) → (a ≡ b → t ≡ true) → (b < a → t ≡ false) → (ltb a b || (t && true)) ≡ leb a b
-joined a b t f g = grind (arith, nat_tests)
-
 between : (x : Float) → (le (fin true 1953125 (pos 9)) x && le x (fin false 1953125 (pos 9))) ≡ readable x
 unfolding le
 between nan = refl
 between (inf true) = refl
 between (inf false) = refl
-between (fin false m e) =
-    let n = m * up e * 1 in
-    let d = 1000000000 * down e in
-    rw (lt-ltb 0 (d + n) (omega (arith, down_pos e)))
-    (joined n d (eqb n d) (eq-eqb n d) (λ l. ne_eqb n d (λ q. omega arith)) ∙ ap (λ (k : ℕ). leb k d) (mul-one (m * up e)))
-between (fin true m e) =
-    let n = m * up e * 1 in
-    let d = 1000000000 * down e in
-    rw (lt-ltb 0 (n + d) (omega (arith, down_pos e)))
-    (and-true _ ∙ joined n d (eqb d n) (λ q. eq-eqb d n (sym q)) (λ l. ne_eqb d n (λ q. omega arith)) ∙ ap (λ (k : ℕ). leb k d) (mul-one (m * up e)))
+between (fin false m e) = grind (arith, nat_tests, down_pos e)
+between (fin true m e) = grind (arith, nat_tests, down_pos e)
 
 in_range : (x : Float) → (le (neg limit) x && le x limit) ≡ readable x
 in_range x = (λ i. le (less_limit_is i) x && le x (limit_is i)) ∙ between x

@@ -52,6 +52,7 @@ fn first_unreadable(readings: &[Reading]) -> Option<usize>
 }
 
 // Each reading's section effect into its place.
+// By index: a proof does not know what a zip over `places.iter_mut()` has written.
 fn fill(readings: &[Reading], places: &mut [Section])
     requires places { length readings.now ≡ length places.old }
     requires readable { All (λ x. T (all_readable x)) readings.now }

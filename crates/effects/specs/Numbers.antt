@@ -1,9 +1,10 @@
 -- One component: where it does not stop, and what the order keeps.
-use Rattle.std.specs.Prelude.{◌≡◌, ℕ, ◌+◌, ◌<◌, ◌≤◌, ◌⊎◌, ℤ, pos, ◌+ℤ◌, ◌*ℤ◌, ◌≤ℤ◌, ◌<ℤ◌, unsigned_abs}
-use Rattle.std.proofs.Common.{inl, inr, mul-le-mul_left, add-mul, mul-add, arith}
+use Rattle.std.specs.Prelude.{◌≡◌, ℕ, ◌+◌, ◌*◌, ◌^◌, ◌<◌, ◌≤◌, ◌⊎◌, ℤ, pos, ◌+ℤ◌, ◌*ℤ◌, ◌≤ℤ◌, ◌<ℤ◌, FitsSigned, unsigned_abs}
+use Rattle.std.proofs.Common.{inl, inr, mul-le-mul, mul-le-mul_left, add-mul, mul-add, arith}
 use Rattle.std.proofs.Math.Nat.{mul-lt-mul_of_pos_left}
-use borrow.Author.Differences.{up, down}
-use Rattle.std.proofs.lemmas.Int.{ints, clamps, by_lt_z}
+use Rattle.std.specs.Int.{w64, w128}
+use borrow.Author.Differences.{up, down, fits_in, abs_is}
+use Rattle.std.proofs.lemmas.Int.{ints, clamps, by_lt_z, unsigned_abs-mul}
 use Rattle.effects.specs.Components.{stopped}
 
 pub stopped_exact : (z : ℤ) → unsigned_abs z ≤ 1_000_000_000_000_000_000 → stopped z ≡ z
@@ -38,3 +39,11 @@ pub ≤-total : (x y : ℤ) → (x ≤ℤ y) ⊎ (y ≤ℤ x)
 -- less, equal or greater
 pub by_order : {P : Type 0} (x y : ℤ) → (x <ℤ y → P) → (x ≡ y → P) → (y <ℤ x → P) → P
 by_order x y l e g = by_lt_z x y l (λ h. by_lt_z y x g (λ k. e (omega (arith, ints))))
+
+-- a 64-bit component times a 32-bit factor, at 128 bits
+pub product_fits : (f : ℕ) (x : ℤ) → f < 2 ^ 32 → FitsSigned w64 x → FitsSigned w128 (pos f *ℤ x)
+product_fits f x h k =
+    let a : unsigned_abs x ≤ 2 ^ 63 = omega (arith, ints) in
+    let b : f * unsigned_abs x ≤ 2 ^ 32 * 2 ^ 63 = mul-le-mul {n₁ = f} {m₁ = unsigned_abs x} {n₂ = 2 ^ 32} {m₂ = 2 ^ 63} (omega arith) a in
+    let c : unsigned_abs (pos f *ℤ x) < 2 ^ 100 = omega (arith, unsigned_abs-mul (pos f) x) in
+    fits_in w128 (pos f *ℤ x) (omega (arith, abs_is (pos f *ℤ x)))

@@ -1,9 +1,22 @@
--- The lowest-numbered greatest effect so far.
-use Rattle.std.proofs.Common.{◌≡◌, ℕ, zero, suc, ◌+◌, ◌<◌, ◌≤◌, Bool, true, false, cond, not, T, ◌⊎◌, List, [], ◌∷◌, map, length, get_or, drop, ℤ, Some, None, sym, refl, ap, ◌∙◌, subst, ⊎_elim, arith, T_not, below_more}
+-- The greatest effect of a list, at its lowest place.
+use Rattle.std.proofs.Common.{◌≡◌, ℕ, zero, suc, ◌+◌, ◌<◌, ◌≤◌, Bool, true, false, cond, not, T, ◌⊎◌, List, [], ◌∷◌, map, length, get_or, drop, length-drop, MatchOption, ℤ, Some, None, Option, Bor, fold, sym, refl, ap, ◌∙◌, subst, ⊎_elim, arith, T_not, below_more}
+use denote.Param.Members.{Mut}
 use lib.Dec.{not_T}
 use lib.ListN.{length-map}
 use Rattle.std.specs.List.{AllByRecursion as All}
-use Rattle.std.proofs.lemmas.List.{get_or-map, drop_more, at_drop_all}
+use Rattle.std.specs.Fn.{Called}
+use Rattle.std.specs.Iterator.{Drains, ReducesItems}
+use Rattle.std.specs.Iterator.Adapters.{enumerate_count, enumerate_source, enumerate_steps}
+use Rattle.std.specs.Slice.Iter.{iter_rest}
+use Rattle.std.specs.List.{enumerate_from, reduce}
+use Rattle.std.specs.Option.{option_map}
+use Rattle.std.specs.declared.slice.Iter.{Iter}
+use Rattle.std.specs.declared.iter.Enumerate.{Enumerate}
+use Rattle.std.proofs.lemmas.Fn.{fold_same, fronts}
+use Rattle.std.proofs.lemmas.Iterator.{YieldsList, YieldsList-from_slice}
+use Rattle.std.proofs.lemmas.Iterator.Consumers.{YieldsList-end, YieldsList-from_enumerate}
+use Rattle.std.proofs.lemmas.List.{map_push, drop_more}
+use Rattle.std.proofs.lemmas.List.Sums.{fold_push}
 use Rattle.std.proofs.ByRecursion.{All-get_or}
 use Rattle.effects.specs.Laws.{Laws, Large}
 use Rattle.effects.specs.Supplies.{Greatest, greatest_from, greatest_of}
@@ -64,78 +77,68 @@ module _ {E : Type 0} {components : E → List ℤ} {count : ℕ} {reaches : Lis
         none_before = λ k l. not_T _ (λ r. T_not _ n (chain_at b k i (omega arith) (omega arith) h (so.none_above k l) r));
       }
 
-  -- one effect more: x stands at place i, and the greatest so far, y, at place b
-  module _ (i b : ℕ) (x y : E) (h : i < length es) (x_read : x ≡ get_or es i x) (y_read : y ≡ get_or es b y) (so : Greatest reaches xss i b) where
-    x_at : get_or xss i [] ≡ components x
-    x_at = get_or-map components es i x [] h ∙ sym (ap components x_read)
+  -- b is the greatest of the first i, and the rest begins at place i
+  greatest_on : (rest : List (List ℤ)) (i b : ℕ) → drop i xss ≡ rest → i ≤ length es → Greatest reaches xss i b → Greatest reaches xss (length es) (greatest_from reaches (get_or xss b []) b i rest)
+  greatest_on [] i b e h so = let all : i ≡ length es = omega (arith, ap length e, length-drop i xss, length-map es components) in subst (λ n. Greatest reaches xss n b) all so
+  greatest_on (xs ∷ rest) i b e h so =
+      let more : i < length es = omega (arith, ap length e, length-drop i xss, length-map es components) in
+      let parts : get_or xss i [] ∷ drop (i + 1) xss ≡ xs ∷ rest = sym (drop_more xss i [] (omega (arith, length-map es components))) ∙ e in
+      let here : get_or xss i [] ≡ xs = cc in
+      let on : drop (i + 1) xss ≡ rest = cc in
+      let step : (t : Bool) → t ≡ reaches (get_or xss b []) xs → Greatest reaches xss (length es) (cond t (greatest_from reaches (get_or xss b []) b (i + 1) rest) (greatest_from reaches xs i (i + 1) rest)) =
+      elim [
+        | true ↦ λ t. greatest_on rest (i + 1) b on (omega arith) (greatest_keeps i b more so (rw (here, ← t) tt))
+        | false ↦ λ t. rw (← here) (greatest_on rest (i + 1) i on (omega arith) (greatest_takes i b more so (rw (here, ← t) tt)))
+      ] in
+      step (reaches (get_or xss b []) xs) refl
 
-    y_at : get_or xss b [] ≡ components y
-    y_at = let bi : b < i = so.within in get_or-map components es b y [] (omega arith) ∙ sym (ap components y_read)
+-- the place as it is defined is that of the greatest
+pub greatest_first : {E : Type 0} {components : E → List ℤ} {count : ℕ} {reaches : List ℤ → List ℤ → Bool} (laws : Laws components count reaches) (es : List E)
+    → All Large (map components es) → MatchOption (greatest_of reaches (map components es)) (length es ≡ 0) (Greatest reaches (map components es) (length es))
+greatest_first laws [] large = refl
+greatest_first {components} laws (x ∷ es) large = greatest_on laws (x ∷ es) large (map components es) 1 0 refl (omega arith) (greatest_none laws (x ∷ es) large (omega arith))
 
-    pub step_keeps : reaches (components y) (components x) ≡ true → Greatest reaches xss (i + 1) b
-    step_keeps e = greatest_keeps i b h so (rw (y_at, x_at, e) tt)
+-- The chain of `greatest`: `reduce` over the effects with their places.
 
-    pub step_takes : reaches (components y) (components x) ≡ false → Greatest reaches xss (i + 1) i
-    step_takes e = greatest_takes i b h so (rw (y_at, x_at, e) tt)
+-- an item's place and its effect
+abbrev pub read : {E : Type 0} → ℕ × Bor E → ℕ × E
+read p = (p.0, p.1.now)
 
--- The place as it is defined, over the effects that are left.
-module _ {E : Type 0} (components : E → List ℤ) (reaches : List ℤ → List ℤ → Bool) (es : List E) where
-  -- what the definition comes to from place i on, where the greatest before is at place b
-  abbrev pub left_from : ℕ → ℕ → ℕ
-  left_from b i = greatest_from reaches (get_or (map components es) b []) b i (drop i (map components es))
+drained : {S A B : Type 0} {steps : S → Option A → S → Type 0} {v : A → B} {s : S} {all : List B} (xs : List A) → YieldsList steps v s all → Drains steps s xs → map v xs ≡ all
+drained xs yields d = (YieldsList-end yields xs d.1.0 d.1.1 None d.0 refl d.1.2).0
 
-  -- a loop's turn: place b has the greatest of the first i
-  pub record Sofar (i b : ℕ) : Type 0 where
-    pub within : b < i
-    pub left : left_from b i ≡ left_from 0 1
-    pub first : All Large (map components es) → Greatest reaches (map components es) i b
+-- what `reduce` gives, where h is read of each call
+reduced : {E F : Type 0} (h : ℕ × E → ℕ × E → ℕ × E) {g : Mut F ((ℕ × Bor E) × ((ℕ × Bor E) × Unit {0})) (ℕ × Bor E)} {f : F} {s : Enumerate (Iter E)} {all : List (ℕ × E)} (r : Option (ℕ × Bor E))
+    → ReducesItems (enumerate_steps fronts) g s f r → YieldsList (enumerate_steps fronts) read s all
+    → ((b n t : ℕ × Bor E) (f' : F) → Called g f (b, (n, tt)) t f' → (read t ≡ h (read b) (read n)) × (f' ≡ f))
+    → option_map read r ≡ reduce h all
+reduced h None ran yields acts = ap (reduce h) (drained [] yields ran)
+reduced {E} h {g} {f} (Some y) ran yields acts =
+    let x = ran.0 in
+    let total : read y ≡ fold h (read x) (map read ran.1) =
+    fold_same g (λ ps b. read b ≡ fold h (read x) (map read ps)) f (λ ps b n t f' so call. let one = acts b n t f' call in (simp (map_push, fold_push) (cc), one.1)) ran.1 x y ran.2 refl ran.4 in
+    ap Some total ∙ ap (reduce h) (drained (x ∷ ran.1) yields ran.3)
 
-whole_value : {E : Type 0} (components : E → List ℤ) (reaches : List ℤ → List ℤ → Bool) (es : List E) (b : ℕ) → 0 < length es → b ≡ left_from components reaches es 0 1 → Some b ≡ greatest_of reaches (map components es)
-whole_value components reaches [] b h e = absurd (omega arith)
-whole_value components reaches (x ∷ es) b h e = ap Some e
+place_of : {E : Type 0} (r : Option (ℕ × Bor E)) → option_map (λ p. p.0) r ≡ option_map (λ p. p.0) (option_map read r)
+place_of None = refl
+place_of (Some p) = refl
 
-pub none_value : {E : Type 0} (components : E → List ℤ) (reaches : List ℤ → List ℤ → Bool) (es : List E) → length es ≡ 0 → None ≡ greatest_of reaches (map components es)
-none_value components reaches [] h = refl
-none_value components reaches (x ∷ es) h = absurd (omega arith)
+module _ {E : Type 0} (components : E → List ℤ) (reaches : List ℤ → List ℤ → Bool) where
+  -- of the greatest so far and the next
+  abbrev pub pick : ℕ × E → ℕ × E → ℕ × E
+  pick best next = cond (reaches (components best.1) (components next.1)) best next
 
-read_at : {E : Type 0} (components : E → List ℤ) (es : List E) (i : ℕ) (x : E) → i < length es → x ≡ get_or es i x → get_or (map components es) i [] ≡ components x
-read_at components es i x h read = get_or-map components es i x [] h ∙ sym (ap components read)
+  picked : (es : List E) (i : ℕ) (b : ℕ × E) → (fold pick b (enumerate_from i es)).0 ≡ greatest_from reaches (components b.1) b.0 i (map components es)
+  picked [] i b = refl
+  picked (x ∷ es) i b = grind (arith, picked es (i + 1) b, picked es (i + 1) (i, x))
 
-module _ {E : Type 0} {components : E → List ℤ} {count : ℕ} {reaches : List ℤ → List ℤ → Bool} (laws : Laws components count reaches) (es : List E) where
-  pub sofar_none : 0 < length es → Sofar components reaches es 1 0
-  sofar_none h = record { within = omega arith; left = refl; first = λ large. greatest_none laws es large h }
+  reduced_place : (es : List E) → option_map (λ p. p.0) (reduce pick (enumerate_from 0 es)) ≡ greatest_of reaches (map components es)
+  reduced_place [] = refl
+  reduced_place (x ∷ es) = ap Some (picked es 1 (0, x))
 
-  -- x stands at place i, and the greatest so far, y, at place b
-  module _ (i b : ℕ) (x y : E) (h : i < length es) (x_read : x ≡ get_or es i x) (y_read : y ≡ get_or es b y) (so : Sofar components reaches es i b) where
-    left_step : left_from components reaches es b i ≡ cond (reaches (components y) (components x)) (left_from components reaches es b (i + 1)) (left_from components reaches es i (i + 1))
-    left_step =
-        let bi : b < length es = omega (arith, so.within) in
-        let long : i < length (map components es) = omega (arith, length-map es components) in
-        let e : drop i (map components es) ≡ get_or (map components es) i [] ∷ drop (i + 1) (map components es) = drop_more (map components es) i [] long in
-        ap (greatest_from reaches (get_or (map components es) b []) b i) e
-        ∙ ap (λ (t : Bool). cond t (left_from components reaches es b (i + 1)) (left_from components reaches es i (i + 1)))
-        (ap (λ ys. reaches ys (get_or (map components es) i [])) (read_at components es b y bi y_read) ∙ ap (reaches (components y)) (read_at components es i x h x_read))
-
-    pub sofar_keeps : reaches (components y) (components x) ≡ true → Sofar components reaches es (i + 1) b
-    sofar_keeps e = record {
-      within = omega (arith, so.within);
-      left = sym (rw e at left_step) ∙ so.left;
-      first = λ large. step_keeps laws es large i b x y h x_read y_read (so.first large) e;
-    }
-
-    pub sofar_takes : reaches (components y) (components x) ≡ false → Sofar components reaches es (i + 1) i
-    sofar_takes e = record {
-      within = omega arith;
-      left = sym (rw e at left_step) ∙ so.left;
-      first = λ large. step_takes laws es large i b x y h x_read y_read (so.first large) e;
-    }
-
-  -- all of them
-  pub sofar_value : (i b : ℕ) → 0 < length es → length es ≤ i → Sofar components reaches es i b → Some b ≡ greatest_of reaches (map components es)
-  sofar_value i b some all so =
-      let long : length (map components es) ≤ i = omega (arith, length-map es components) in
-      let e : left_from components reaches es b i ≡ b = at_drop_all (greatest_from reaches (get_or (map components es) b []) b i) (map components es) i long in
-      whole_value components reaches es b some (sym e ∙ so.left)
-
-  pub sofar_first : (i b : ℕ) → i ≡ length es → Sofar components reaches es i b → All Large (map components es) → Greatest reaches (map components es) (length es) b
-  sofar_first i b e so large = rw e at (so.first large)
+  pub greatest_place : {F : Type 0} (es : List E) (s : Enumerate (Iter E)) (r : Option (ℕ × Bor E)) {g : Mut F ((ℕ × Bor E) × ((ℕ × Bor E) × Unit {0})) (ℕ × Bor E)} {f : F}
+      → ReducesItems (enumerate_steps fronts) g s f r → iter_rest (enumerate_source s) ≡ es → enumerate_count s ≡ 0
+      → ((b n t : ℕ × Bor E) (f' : F) → Called g f (b, (n, tt)) t f' → (read t ≡ pick (read b) (read n)) × (f' ≡ f))
+      → option_map (λ p. p.0) r ≡ greatest_of reaches (map components es)
+  greatest_place es s r ran rest start acts =
+      place_of r ∙ ap (option_map (λ p. p.0)) (reduced pick r ran (YieldsList-from_enumerate (YieldsList-from_slice es rest) start) acts) ∙ reduced_place es

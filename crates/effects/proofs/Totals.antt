@@ -1,8 +1,16 @@
 -- The sum of a supply stops nowhere.
-use Rattle.std.proofs.Common.{◌≡◌, ℕ, zero, suc, ◌+◌, ◌*◌, ◌<◌, ◌≤◌, List, [], ◌∷◌, map, length, get_or, take, ℤ, fold, sym, refl, ap, ◌∙◌, suc-mul, arith}
+use Rattle.std.proofs.Common.{◌≡◌, ℕ, zero, suc, ◌+◌, ◌*◌, ◌≤◌, List, [], ◌∷◌, map, length, ℤ, fold, Bor, sym, refl, ap, ◌∙◌, suc-mul, arith}
+use denote.Param.Members.{Mut}
 use lib.IntN.{+ℤ_assoc, +ℤ_idr}
 use lib.ListN.{length-replicate}
-use Rattle.std.proofs.lemmas.List.Sums.{fold_more}
+use Rattle.std.specs.Fn.{Called}
+use Rattle.std.specs.Iterator.{FoldsItems}
+use Rattle.std.specs.Slice.Iter.{iter_rest}
+use Rattle.std.specs.declared.slice.Iter.{Iter}
+use Rattle.std.proofs.lemmas.Fn.{fold_over, fronts}
+use Rattle.std.proofs.lemmas.Iterator.{YieldsList-from_slice}
+use Rattle.std.proofs.lemmas.List.{map_push}
+use Rattle.std.proofs.lemmas.List.Sums.{fold_push}
 use Rattle.std.specs.List.{AllByRecursion as All}
 use Rattle.effects.specs.Components.{zeros, sum, exact_sum, size}
 use Rattle.effects.specs.Laws.{Closed}
@@ -41,28 +49,25 @@ folded_exact n s (xs ∷ xss) sofar long (l, longs) (m, smalls) h =
     let t = folded_exact n s xss (exact_sum sofar xs) now_long longs smalls (omega (arith, exact_sum_size sofar xs)) in
     ap (λ ys. fold sum ys xss) e ∙ t ∙ sum_assoc sofar xs (exact_total n xss)
 
-pub folded_map : {E : Type 0} (components : E → List ℤ) (a : List ℤ) (es : List E) → fold (λ t e. sum t (components e)) a es ≡ fold sum a (map components es)
-folded_map components a [] = refl
-folded_map components a (e ∷ es) = folded_map components (sum a (components e)) es
-
 module _ {E : Type 0} {components : E → List ℤ} {count : ℕ} (closed : Closed components count) where
   pub widths : (es : List E) → All (λ xs. length xs ≡ count) (map components es)
   widths [] = tt
   widths (e ∷ es) = (closed.width e, widths es)
 
-  pub supply_exact : (es : List E) → Supply (map components es) → fold (λ t e. sum t (components e)) (zeros count) es ≡ exact_total count (map components es)
+  pub supply_exact : (es : List E) → Supply (map components es) → fold sum (zeros count) (map components es) ≡ exact_total count (map components es)
   supply_exact es s =
       let few = s.few in
       let bound : length (map components es) * 1_000_000_000 ≤ 192_000_000_000 = omega arith in
       let total = exact_total count (map components es) in
       let none = zeros_size count in
-      folded_map components (zeros count) es
-      ∙ folded_exact count 1_000_000_000 (map components es) (zeros count) (length-replicate count _) (widths es) s.small (omega arith)
+      folded_exact count 1_000_000_000 (map components es) (zeros count) (length-replicate count _) (widths es) s.small (omega arith)
       ∙ zeros_sum count total (length_total count (map components es) (widths es))
 
--- one effect more, x at place i
-pub total_more : {E : Type 0} (components : E → List ℤ) (a : List ℤ) (es : List E) (i : ℕ) (x : E) (t s : List ℤ) → i < length es → x ≡ get_or es i x
-    → t ≡ fold (λ t e. sum t (components e)) a (take i es) → s ≡ sum t (components x) → s ≡ fold (λ t e. sum t (components e)) a (take (i + 1) es)
-total_more components a es i x t s h read so next =
-    let more = fold_more (λ t e. sum t (components e)) a es i x h in
-    next ∙ ap (λ ys. sum ys (components x)) so ∙ ap (λ y. sum (fold (λ t e. sum t (components e)) a (take i es)) (components y)) read ∙ sym more
+-- what `fold` gives over a slice, where it starts with components a and each call adds one effect
+pub folded_total : {E F : Type 0} (components : E → List ℤ) (es : List E) {a : List ℤ} {r z : E} {g : Mut F (E × (Bor E × Unit {0})) E} {f : F} {s : Iter E}
+    → FoldsItems fronts g s f z r → iter_rest s ≡ es → components z ≡ a
+    → ((t : E) (x : Bor E) (u : E) (f' : F) → Called g f (t, (x, tt)) u f' → (components u ≡ sum (components t) (components x.now)) × (f' ≡ f))
+    → components r ≡ fold sum a (map components es)
+folded_total components es {a} {r} {z} {g} {f} {s} ran rest start adds =
+    fold_over fronts (λ y. y.now) g (λ ys t. components t ≡ fold sum a (map components ys)) f
+    (λ ys t x u f' so call. let one = adds t x u f' call in (simp (map_push, fold_push) (cc), one.1)) s es z r (YieldsList-from_slice es rest).runs start ran

@@ -1,10 +1,11 @@
 -- Component lists: sums and multiples that stop nowhere.
 use Rattle.std.specs.Prelude.{◌≡◌, ℕ, zero, suc, ◌+◌, ◌*◌, ◌≤◌, max, List, [], ◌∷◌, length, ℤ, pos, ◌+ℤ◌, ◌*ℤ◌, unsigned_abs, refl}
 use Rattle.std.proofs.Common.{ap, mul-le-mul, mul-le-mul_left, arith}
+use Rattle.std.proofs.lemmas.Int.{unsigned_abs-mul}
 use Rattle.std.proofs.Math.IntN.{*ℤ-zero, +ℤ_idl}
 use Rattle.effects.specs.Components.{stopped, zeros, sum, multiple, exact_sum, exact_multiple, size}
 use Rattle.effects.specs.Laws.{Large, Small, IsFactor}
-use Rattle.effects.specs.Numbers.{stopped_exact, sum_size, product_size, product_split}
+use Rattle.effects.specs.Numbers.{stopped_exact, sum_size, product_split}
 
 pub sum_exact : (xs ys : List ℤ) → size xs + size ys ≤ 1_000_000_000_000_000_000 → sum xs ys ≡ exact_sum xs ys
 sum_exact [] ys h = refl
@@ -24,14 +25,14 @@ exact_multiple_size f [] = omega arith
 exact_multiple_size f (x ∷ xs) =
     let a : f * unsigned_abs x ≤ f * max (unsigned_abs x) (size xs) = mul-le-mul_left f (omega arith) in
     let b : f * size xs ≤ f * max (unsigned_abs x) (size xs) = mul-le-mul_left f (omega arith) in
-    omega (arith, product_size f x, exact_multiple_size f xs)
+    omega (arith, unsigned_abs-mul (pos f) x, exact_multiple_size f xs)
 
 pub multiple_exact : (f : ℕ) (xs : List ℤ) → f * size xs ≤ 1_000_000_000_000_000_000 → multiple f xs ≡ exact_multiple f xs
 multiple_exact f [] h = refl
 multiple_exact f (x ∷ xs) h =
     let a : f * unsigned_abs x ≤ f * max (unsigned_abs x) (size xs) = mul-le-mul_left f (omega arith) in
     let b : f * size xs ≤ f * max (unsigned_abs x) (size xs) = mul-le-mul_left f (omega arith) in
-    let e : stopped (pos f *ℤ x) ≡ pos f *ℤ x = stopped_exact (pos f *ℤ x) (omega (arith, product_size f x)) in
+    let e : stopped (pos f *ℤ x) ≡ pos f *ℤ x = stopped_exact (pos f *ℤ x) (omega (arith, unsigned_abs-mul (pos f) x)) in
     let t = multiple_exact f xs (omega arith) in
     cc
 

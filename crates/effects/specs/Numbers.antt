@@ -1,10 +1,10 @@
 -- One component: where it does not stop, and what the order keeps.
-use Rattle.std.specs.Prelude.{◌≡◌, ℕ, ◌+◌, ◌*◌, ◌^◌, ◌<◌, ◌≤◌, ◌⊎◌, ℤ, pos, negsuc, ◌+ℤ◌, ◌*ℤ◌, ◌≤ℤ◌, ◌<ℤ◌, FitsSigned, unsigned_abs, refl}
+use Rattle.std.specs.Prelude.{◌≡◌, ℕ, ◌+◌, ◌*◌, ◌^◌, ◌<◌, ◌≤◌, ◌⊎◌, ℤ, pos, ◌+ℤ◌, ◌*ℤ◌, ◌≤ℤ◌, ◌<ℤ◌, FitsSigned, unsigned_abs}
 use Rattle.std.proofs.Common.{inl, inr, mul-le-mul, mul-le-mul_left, add-mul, mul-add, arith}
 use Rattle.std.proofs.Math.Nat.{mul-lt-mul_of_pos_left}
 use Rattle.std.specs.Int.{w64, w128}
 use borrow.Author.Differences.{up, down, fits_in, abs_is}
-use Rattle.std.proofs.lemmas.Int.{ints, clamps, by_lt_z}
+use Rattle.std.proofs.lemmas.Int.{ints, clamps, by_lt_z, unsigned_abs-mul}
 use Rattle.effects.specs.Components.{stopped}
 
 pub stopped_exact : (z : ℤ) → unsigned_abs z ≤ 1_000_000_000_000_000_000 → stopped z ≡ z
@@ -12,13 +12,6 @@ stopped_exact z h = omega (arith, ints, clamps)
 
 pub sum_size : (x y : ℤ) (m n : ℕ) → unsigned_abs x ≤ m → unsigned_abs y ≤ n → unsigned_abs (x +ℤ y) ≤ m + n
 sum_size x y m n h k = omega (arith, ints)
-
-pub product_size : (f : ℕ) (x : ℤ) → unsigned_abs (pos f *ℤ x) ≡ f * unsigned_abs x
-product_size f (pos n) = refl
-product_size f (negsuc n) = omega (arith, ints)
-
-pub product_le : (f : ℕ) (x : ℤ) (k m : ℕ) → f ≤ k → unsigned_abs x ≤ m → unsigned_abs (pos f *ℤ x) ≤ k * m
-product_le f x k m h j = omega (arith, product_size f x, mul-le-mul h j)
 
 -- a factor in two parts
 pub product_split : (f g : ℕ) (x : ℤ) → pos (f + g) *ℤ x ≡ pos f *ℤ x +ℤ pos g *ℤ x
@@ -51,6 +44,6 @@ by_order x y l e g = by_lt_z x y l (λ h. by_lt_z y x g (λ k. e (omega (arith, 
 pub product_fits : (f : ℕ) (x : ℤ) → f < 2 ^ 32 → FitsSigned w64 x → FitsSigned w128 (pos f *ℤ x)
 product_fits f x h k =
     let a : unsigned_abs x ≤ 2 ^ 63 = omega (arith, ints) in
-    let b : unsigned_abs (pos f *ℤ x) ≤ 2 ^ 32 * 2 ^ 63 = product_le f x (2 ^ 32) (2 ^ 63) (omega arith) a in
-    let c : unsigned_abs (pos f *ℤ x) < 2 ^ 100 = omega arith in
+    let b : f * unsigned_abs x ≤ 2 ^ 32 * 2 ^ 63 = mul-le-mul {n₁ = f} {m₁ = unsigned_abs x} {n₂ = 2 ^ 32} {m₂ = 2 ^ 63} (omega arith) a in
+    let c : unsigned_abs (pos f *ℤ x) < 2 ^ 100 = omega (arith, unsigned_abs-mul (pos f) x) in
     fits_in w128 (pos f *ℤ x) (omega (arith, abs_is (pos f *ℤ x)))

@@ -6,6 +6,7 @@ ghost use Rattle.effects.specs.Laws.{Closed, Laws};
 use basis::factor::Factor;
 
 // A kind of effect, by the components of its effects and their ranking.
+// Not by std's Default, Add and PartialOrd: these know no components, a sum stops at a limit, and level effects may differ.
 pub trait Effect: Copy {
     // What an effect means.
     ghost components: { Self → List ℤ };

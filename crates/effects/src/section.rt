@@ -7,8 +7,8 @@ use crate::component::{component_multiple, component_sum};
 use crate::effect::Effect;
 use basis::factor::Factor;
 
-// Axial force, moment and shear, ranked by the first that differs.
-#[derive(Clone, Copy, PartialEq, Eq, Debug)]
+// Axial force, moment and shear, in the order in which they rank: by the first that differs.
+#[derive(Clone, Copy, PartialEq, Eq, PartialOrd, Ord, Debug)]
 pub struct Section {
     pub axial: i64,
     pub moment: i64,
@@ -58,12 +58,6 @@ impl Effect for Section {
     }
 
     fn at_or_above(self, other: Section) -> bool {
-        if self.axial != other.axial {
-            self.axial > other.axial
-        } else if self.moment != other.moment {
-            self.moment > other.moment
-        } else {
-            self.shear >= other.shear
-        }
+        self >= other
     }
 }

@@ -8,7 +8,7 @@ use crate::effect::Effect;
 use basis::factor::Factor;
 
 // One component; the greater ranks above.
-#[derive(Clone, Copy, PartialEq, Eq, Debug)]
+#[derive(Clone, Copy, PartialEq, Eq, PartialOrd, Ord, Debug)]
 pub struct Single {
     pub value: i64,
 }
@@ -46,6 +46,6 @@ impl Effect for Single {
     }
 
     fn at_or_above(self, other: Single) -> bool {
-        self.value >= other.value
+        self >= other
     }
 }

@@ -11,11 +11,9 @@ pub fn total_of<E: Effect>(effects: &[E]) -> E
     ensures value { E.components result ≡ total E.count (map E.components effects.now) }
     ensures exact { Supply (map E.components effects.now) → E.components result ≡ exact_total E.count (map E.components effects.now) }
 {
-    let mut total = E::zero();
-    for effect in effects {
-        total = total.sum(*effect);
-    }
-    total
+    effects
+        .iter()
+        .fold(E::zero(), |total, effect| total.sum(*effect))
 }
 
 // The place of the greatest of a list of effects, the lowest where there are several.
@@ -23,14 +21,13 @@ pub fn greatest<E: Effect>(effects: &[E]) -> Option<usize>
     ensures value { result ≡ greatest_of E.reaches (map E.components effects.now) }
     ensures first { AllByRecursion Large (map E.components effects.now) → MatchOption result (length effects.now ≡ 0) (λ b. Greatest E.reaches (map E.components effects.now) (length effects.now) b) }
 {
-    if effects.is_empty() {
-        return None;
-    }
-    let mut best = 0;
-    for i in 1..effects.len() {
-        if !effects[best].at_or_above(effects[i]) {
-            best = i;
-        }
-    }
-    Some(best)
+    effects
+        .iter()
+        .enumerate()
+        .reduce(|best, next| if best.1.at_or_above(*next.1) {
+            best
+        } else {
+            next
+        })
+        .map(|(place, _)| place)
 }

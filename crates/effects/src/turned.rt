@@ -6,6 +6,7 @@ use crate::effect::Effect;
 use basis::factor::Factor;
 
 // The same effects with the ranking reversed: the greatest is the least of the kind below.
+// std's Reverse turns an Ord, which a kind of effect need not have.
 #[derive(Clone, Copy, PartialEq, Eq, Debug)]
 pub struct Turned<E> {
     pub effect: E,

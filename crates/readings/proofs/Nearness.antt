@@ -4,12 +4,13 @@ use native.Mathlib.Nat.{eq_of_mul-eq-mul_right}
 use lib.Arith.{digits_div, digits_mod}
 use lib.IntN.{neg_ℤ-neg_ℤ}
 use lib.Ieee.{Float}
+use Rattle.std.proofs.lemmas.Bool.{cases_order}
 use Rattle.std.proofs.lemmas.Int.{ints}
 use Rattle.readings.specs.Nearest.{negative, size, unit, signed, readable, whole_of, read_of, nearest, tie, Preferred}
 use Rattle.readings.specs.Rounded.{off, Rounded, SectionRounded, EachRounded}
 use Rattle.readings.specs.Readings.{section_of}
 use Rattle.readings.specs.declared.list.Reading.{Reading}
-use Rattle.readings.proofs.Rounding.{order, closer_below, closer_half, closer_above}
+use Rattle.readings.proofs.Rounding.{closer_below, closer_half, closer_above}
 use Rattle.readings.proofs.Patterns.{unit_pos}
 
 -- all that is used of the rule for halves: these two hold as they stand for halves to even too
@@ -18,8 +19,7 @@ tie_within : (q : ℕ) → (q ≤ tie q) × (tie q ≤ suc q)
 tie_within q = (omega arith, omega arith)
 
 preferred : (q k : ℕ) → (k ≡ q) ⊎ (k ≡ suc q) → (k ≡ tie q → ⊥) → Preferred (tie q) k
-preferred q k (inl e) n = elim (order k (tie q)) [ inl l ↦ omega arith | inr o ↦ elim o [ inl l ↦ absurd (n l) | inr l ↦ omega arith ] ]
-preferred q k (inr e) n = elim (order k (tie q)) [ inl l ↦ omega arith | inr o ↦ elim o [ inl l ↦ absurd (n l) | inr l ↦ omega arith ] ]
+preferred q k e n = grind arith
 
 -- n / d and the whole number r nearest to it
 
@@ -35,12 +35,12 @@ module _ (n d : ℕ) (D : 0 < d) where
       let e : q * d + m ≡ n = div-add-mod' n d in
       let l : m < d = mod-lt n D in
       let s : suc q * d ≡ q * d + d = suc-mul q d in
-      elim (order (m * 2) d) [
-        | inl h ↦ let p : r * d ≡ q * d = ap (λ (k : ℕ). k * d) (closer_below q m d h) in omega arith
+      elim (cases_order (m * 2) d) [
+        | inl h ↦
+            let p : r * d ≡ tie q * d = ap (λ (k : ℕ). k * d) (closer_half q m d h) in
+            omega (arith, mul-le-mul_right d (tie_within q).0, mul-le-mul_right d (tie_within q).1)
         | inr o ↦ elim o [
-          | inl h ↦
-              let p : r * d ≡ tie q * d = ap (λ (k : ℕ). k * d) (closer_half q m d h) in
-              omega (arith, mul-le-mul_right d (tie_within q).0, mul-le-mul_right d (tie_within q).1)
+          | inl h ↦ let p : r * d ≡ q * d = ap (λ (k : ℕ). k * d) (closer_below q m d h) in omega arith
           | inr h ↦ let p : r * d ≡ suc q * d = ap (λ (k : ℕ). k * d) (closer_above q m d h) in omega arith
         ]
       ]
@@ -69,12 +69,9 @@ module _ (n d : ℕ) (D : 0 < d) where
 
   near : (k : ℤ) → gap (pos r) ≤ gap k
   near (pos k) =
-      elim (order k r) [
-        | inl h ↦ omega (arith, gap_pos k, gap_pos r, within, more k r h)
-        | inr o ↦ elim o [
-          | inl h ↦ subst (λ (j : ℕ). gap (pos r) ≤ gap (pos j)) (sym h) (native.Mathlib.Nat.le_refl (gap (pos r)))
-          | inr h ↦ omega (arith, gap_pos k, gap_pos r, within, more r k h)
-        ]
+      elim (cases_order k r) [
+        | inl h ↦ subst (λ (j : ℕ). gap (pos r) ≤ gap (pos j)) (sym h) (native.Mathlib.Nat.le_refl (gap (pos r)))
+        | inr o ↦ elim o [ inl h ↦ omega (arith, gap_pos k, gap_pos r, within, more k r h) | inr h ↦ omega (arith, gap_pos k, gap_pos r, within, more r k h) ]
       ]
   near (negsuc k) = omega (arith, gap_neg k, gap_pos r, within, suc-mul k d)
 
@@ -84,13 +81,13 @@ module _ (n d : ℕ) (D : 0 < d) where
 
   ties : (k : ℤ) → gap k ≡ gap (pos r) → (k ≡ pos r) ⊎ Preferred r (nat_abs k)
   ties (pos k) e =
-      elim (order k r) [
-        | inl h ↦
-            let m = more k r h in
-            let t : r ≡ tie k = at_half k (omega (arith, gap_pos k, gap_pos r, within)) in
-            inr (subst (λ (j : ℕ). Preferred j k) (sym t) (preferred k k (inl refl) (λ z. omega arith)))
+      elim (cases_order k r) [
+        | inl h ↦ inl (ap pos h)
         | inr o ↦ elim o [
-          | inl h ↦ inl (ap pos h)
+          | inl h ↦
+              let m = more k r h in
+              let t : r ≡ tie k = at_half k (omega (arith, gap_pos k, gap_pos r, within)) in
+              inr (subst (λ (j : ℕ). Preferred j k) (sym t) (preferred k k (inl refl) (λ z. omega arith)))
           | inr h ↦
               let m = more r k h in
               let s : k ≡ suc r = next_to r k (omega (arith, gap_pos k, gap_pos r, within)) m in
@@ -102,12 +99,9 @@ module _ (n d : ℕ) (D : 0 < d) where
 
   exact : (k : ℤ) → gap k ≡ 0 → pos r ≡ k
   exact (pos k) e =
-      elim (order k r) [
-        | inl h ↦ absurd (omega (arith, gap_pos k, within, more k r h))
-        | inr o ↦ elim o [
-          | inl h ↦ ap pos (sym h)
-          | inr h ↦ absurd (omega (arith, gap_pos k, within, more r k h))
-        ]
+      elim (cases_order k r) [
+        | inl h ↦ ap pos (sym h)
+        | inr o ↦ elim o [ inl h ↦ absurd (omega (arith, gap_pos k, within, more k r h)) | inr h ↦ absurd (omega (arith, gap_pos k, within, more r k h)) ]
       ]
   exact (negsuc k) e = absurd (omega (arith, gap_neg k, suc-mul k d))
 

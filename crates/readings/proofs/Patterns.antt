@@ -1,15 +1,18 @@
 -- A float that is read: its range by two comparisons, and its value by its pattern's sign, exponent and digits.
-use Rattle.std.proofs.Common.{◌≡◌, ℕ, zero, suc, ◌+◌, ◌-◌, ◌*◌, ◌/◌, ◌%◌, ◌^◌, ◌<◌, ◌≤◌, Bool, true, false, cond, not, ◌&&◌, ◌||◌, T, eqb, ltb, leb, pos, neg_ℤ, sym, refl, ap, ◌∙◌, subst, inl, inr, le_trans, le_of_eq, lt_of_lt_of_le, le-add_right, lt_of_le_of_lt, lt_irrefl, mul-le-mul_right, mod-lt, lt_of_not-le, mul-one, le_of_mul-le-mul_right, arith, leb→le, pow_pos, pow_mono, pow-add, shl_lt, le-ltb, lt-ltb, eq-eqb, ne_eqb, le-leb}
+use Rattle.std.proofs.Common.{to_z, of_z, w64, ◌-ℤ◌, ◌≡◌, ℕ, zero, suc, ◌+◌, ◌-◌, ◌*◌, ◌/◌, ◌%◌, ◌^◌, ◌<◌, ◌≤◌, Bool, true, false, cond, not, ◌&&◌, T, eqb, leb, pos, neg_ℤ, sym, refl, ap, ◌∙◌, subst, inl, inr, le_trans, le_of_eq, lt_of_lt_of_le, le-add_right, lt_of_le_of_lt, lt_irrefl, mul-le-mul_right, mod-lt, lt_of_not-le, mul-one, le_of_mul-le-mul_right, arith, leb→le, pow_pos, pow_mono, pow-add, shl_lt, ne_eqb, le-leb}
+use Rattle.std.proofs.lemmas.Bool.{cases_order}
+use Rattle.std.proofs.lemmas.Bool.Decides.{nat_tests}
+use Rattle.std.proofs.lemmas.Int.{ints}
 use lib.Bits.{bit_and, bit_or, and_mask, or_shifted_r}
 use lib.Pow.{field}
 use borrow.Author.Tests.{lt-leb}
-use lib.Ieee.{Float, nan, inf, fin, binary64, up, down, odd, le, ne, neg, is_nan, fits, of_bits, of_fields, to_bits}
+use lib.Ieee.{Float, nan, inf, fin, binary64, odd, le, ne, neg, is_nan, fits, of_bits, of_fields, to_bits}
 use lib.Ieee.Fits.{down_pos, and_l, and_r}
 use lib.Ieee.Bits.{of_bits-to_bits, to_bits-lt}
 use lib.Ieee.Compare.{differs_from_itself}
 use lib.Ieee.Exact.{HasValue, odd_sign}
 use Rattle.readings.specs.Nearest.{finite, negative, size, unit, readable, whole_of, signed, nearest}
-use Rattle.readings.proofs.Rounding.{order, nearest-same, nearest_zero}
+use Rattle.readings.proofs.Rounding.{nearest-same, nearest_zero, shifted_lt}
 
 -- the range, by two comparisons
 
@@ -25,36 +28,13 @@ less_limit_is : neg limit ≡ fin true 1953125 (pos 9)
 unfolding of_bits neg
 less_limit_is = refl
 
--- a test by `<` or by `=` is one by `≤`
-joined : (a b : ℕ) (t : Bool) → (a ≡ b → t ≡ true) → (b < a → t ≡ false) → (ltb a b || (t && true)) ≡ leb a b
-joined a b t f g =
-    elim (order a b) [
-      | inl l ↦ rw (lt-ltb a b l, le-leb a b (omega arith)) refl
-      | inr o ↦ elim o [
-        | inl l ↦ rw (le-ltb a b (omega arith), f l, le-leb a b (omega arith)) refl
-        | inr l ↦ rw (le-ltb a b (omega arith), g l, lt-leb a b l) refl
-      ]
-    ]
-
-and-true : (b : Bool) → (b && true) ≡ b
-and-true true = refl
-and-true false = refl
-
 between : (x : Float) → (le (fin true 1953125 (pos 9)) x && le x (fin false 1953125 (pos 9))) ≡ readable x
 unfolding le
 between nan = refl
 between (inf true) = refl
 between (inf false) = refl
-between (fin false m e) =
-    let n = m * up e * 1 in
-    let d = 1000000000 * down e in
-    rw (lt-ltb 0 (d + n) (omega (arith, down_pos e)))
-    (joined n d (eqb n d) (eq-eqb n d) (λ l. ne_eqb n d (λ q. omega arith)) ∙ ap (λ (k : ℕ). leb k d) (mul-one (m * up e)))
-between (fin true m e) =
-    let n = m * up e * 1 in
-    let d = 1000000000 * down e in
-    rw (lt-ltb 0 (n + d) (omega (arith, down_pos e)))
-    (and-true _ ∙ joined n d (eqb d n) (λ q. eq-eqb d n (sym q)) (λ l. ne_eqb d n (λ q. omega arith)) ∙ ap (λ (k : ℕ). leb k d) (mul-one (m * up e)))
+between (fin false m e) = grind (arith, nat_tests, down_pos e)
+between (fin true m e) = grind (arith, nat_tests, down_pos e)
 
 in_range : (x : Float) → (le (neg limit) x && le x limit) ≡ readable x
 in_range x = (λ i. le (less_limit_is i) x && le x (limit_is i)) ∙ between x
@@ -67,6 +47,9 @@ by_lower x h = h ∙ ap (λ (b : Bool). b && le x limit) (sym h) ∙ in_range x
 
 pub by_nan : (x : Float) → ne x x ≡ true → false ≡ readable x
 by_nan x h = ap readable (sym (differs_from_itself x (subst T (sym h) tt)))
+
+-- the range as it is tested
+pub ruleset by_range = (by_nan, by_upper, by_lower)
 
 -- what is read is a number
 
@@ -102,12 +85,9 @@ unfolding of_bits
 read_bits b t =
     let s = leb (2 ^ 63) b in
     let x = b % 2 ^ 63 / 2 ^ 52 in
-    elim (order x 2047) [
-      | inl l ↦ read s x (b % 2 ^ 52) l
-      | inr o ↦ elim o [
-        | inl l ↦ absurd (subst T (ap (λ (k : ℕ). finite (of_fields binary64 s k (b % 2 ^ 52))) l ∙ not_finite s (b % 2 ^ 52)) t)
-        | inr l ↦ absurd (omega arith)
-      ]
+    elim (cases_order x 2047) [
+      | inl l ↦ absurd (subst T (ap (λ (k : ℕ). finite (of_fields binary64 s k (b % 2 ^ 52))) l ∙ not_finite s (b % 2 ^ 52)) t)
+      | inr o ↦ elim o [ inl l ↦ read s x (b % 2 ^ 52) l | inr l ↦ absurd (omega arith) ]
     ]
 
 exponent_is : (b : ℕ) → b % 2 ^ 63 / 2 ^ 52 ≡ bit_and (b / 2 ^ 52) 2047
@@ -220,11 +200,19 @@ module _ (x : Float) (F : T (fits binary64 x)) (R : T (readable x)) where
   at_shift h =
       whole_is ∙ ap (signed (leb (2 ^ 63) b)) (scaled exponent digits h exponent_most ∙ ap (λ (k : ℕ). nearest k (2 ^ (1075 - exponent))) (sym (digits_are b)))
 
-  pub if_negative : 1022 ≤ exponent → b / 2 ^ 63 ≡ 1 → whole_of x ≡ neg_ℤ (pos (nearest (bit_or (bit_and b (2 ^ 52 - 1)) (2 ^ 52)) (2 ^ (1075 - exponent))))
-  if_negative h n = at_shift h ∙ ap (λ (s : Bool). signed s (nearest (bit_or (bit_and b (2 ^ 52 - 1)) (2 ^ 52)) (2 ^ (1075 - exponent)))) (le-leb (2 ^ 63) b (omega arith))
+  -- the machine's negative of the rounded size r, which is far below 2 ^ 63
+  pub if_negative : (r : ℕ) → r ≡ nearest (bit_or (bit_and b (2 ^ 52 - 1)) (2 ^ 52)) (2 ^ (1075 - exponent)) → 1022 ≤ exponent → b / 2 ^ 63 ≡ 1 → to_z w64 (of_z w64 (pos 0 -ℤ to_z w64 r)) ≡ whole_of x
+  if_negative r e h n =
+      let l : r < 2 ^ 63 = shifted_lt _ _ r e mantissa_lt in
+      let m : to_z w64 (of_z w64 (pos 0 -ℤ to_z w64 r)) ≡ neg_ℤ (pos r) = omega (arith, ints) in
+      m ∙ ap (λ (k : ℕ). neg_ℤ (pos k)) e
+      ∙ sym (at_shift h ∙ ap (λ (s : Bool). signed s (nearest (bit_or (bit_and b (2 ^ 52 - 1)) (2 ^ 52)) (2 ^ (1075 - exponent)))) (le-leb (2 ^ 63) b (omega arith)))
 
   pub if_positive : 1022 ≤ exponent → (b / 2 ^ 63 ≡ 1 → ⊥) → whole_of x ≡ pos (nearest (bit_or (bit_and b (2 ^ 52 - 1)) (2 ^ 52)) (2 ^ (1075 - exponent)))
   if_positive h n =
       let w : b < 2 ^ 64 = to_bits-lt binary64 x F in
       let z : b < 2 ^ 63 = lt_of_not-le (λ (g : 2 ^ 63 ≤ b). n (omega arith)) in
       at_shift h ∙ ap (λ (s : Bool). signed s (nearest (bit_or (bit_and b (2 ^ 52 - 1)) (2 ^ 52)) (2 ^ (1075 - exponent)))) (lt-leb (2 ^ 63) b z)
+
+-- what `nearest_whole` takes from a pattern
+pub ruleset by_pattern = (is_number, below_half, exponent_most, mantissa_lt, if_positive)

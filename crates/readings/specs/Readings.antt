@@ -1,5 +1,6 @@
 -- A list of readings as a list of section effects, and the questions that are put first.
-use Rattle.std.specs.Prelude.{ℕ, suc, Bool, cond, ◌&&◌, List, [], ◌∷◌, map, length, Some, None, Ok, Err, Option, Result, ◌==◌}
+use Rattle.std.specs.Prelude.{ℕ, Bool, cond, ◌&&◌, List, map, length, Some, None, Ok, Err, Option, Result, not, ◌==◌}
+use Rattle.std.specs.List.{position}
 use Rattle.effects.specs.declared.section.Section.{Section}
 use Rattle.readings.specs.declared.list.Reading.{Reading}
 use Rattle.readings.specs.declared.list.ReadingRefusal.{ReadingRefusal}
@@ -14,10 +15,9 @@ all_readable x = readable x.axial && readable x.moment && readable x.shear
 abbrev pub section_of : Reading → Section
 section_of x = record { axial = whole_of x.axial; moment = whole_of x.moment; shear = whole_of x.shear }
 
--- the place of the first reading that is not readable, the places counted from i
-unfoldable pub first_unreadable_from : ℕ → List Reading → Option ℕ
-first_unreadable_from i [] = None
-first_unreadable_from i (x ∷ xs) = cond (all_readable x) (first_unreadable_from (suc i) xs) (Some i)
+-- the place of the first reading that is not readable
+abbrev pub first_unreadable : List Reading → Option ℕ
+first_unreadable xs = position (λ x. not (all_readable x)) xs
 
 -- all are read, or the number of the refusal, with a place where it names one
 pub data Answer : Type 0 where
@@ -36,5 +36,5 @@ said (Err (OutOfRange p)) = refused_at 15 p
 abbrev pub reading : List Reading → List Section → Answer × List Section
 reading xs places =
     cond (length xs == length places)
-    (elim (first_unreadable_from 0 xs) [ None ↦ (all_read, map section_of xs) | Some p ↦ (refused_at 15 p, places) ])
+    (elim (first_unreadable xs) [ None ↦ (all_read, map section_of xs) | Some p ↦ (refused_at 15 p, places) ])
     (refused 14, places)

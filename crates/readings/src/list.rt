@@ -1,7 +1,8 @@
 // Lists of readings, read as section effects.
 ghost use Rattle.std.specs.Prelude.{◌≡◌, T, map, length, None};
+ghost use Rattle.std.specs.List.{All};
 ghost use Rattle.readings.specs.Rounded.{EachRounded};
-ghost use Rattle.readings.specs.Readings.{all_readable, section_of, first_unreadable_from, said, all_read, reading};
+ghost use Rattle.readings.specs.Readings.{all_readable, section_of, first_unreadable, said, all_read, reading};
 
 use crate::number::{is_readable, nearest_whole};
 use effects::section::Section;
@@ -44,19 +45,17 @@ impl Reading {
 
 // The place of the first reading that is not readable.
 fn first_unreadable(readings: &[Reading]) -> Option<usize>
-    ensures { result ≡ first_unreadable_from 0 readings.now }
+    ensures place { result ≡ first_unreadable readings.now }
+    ensures readable { result ≡ None → All (λ x. T (all_readable x)) readings.now }
 {
-    for (i, reading) in readings.iter().enumerate() {
-        if !reading.is_readable() {
-            return Some(i);
-        }
-    }
-    None
+    readings.iter().position(|reading| !reading.is_readable())
 }
 
 // Each reading's section effect into its place.
+// By index: a proof does not know what a zip over `places.iter_mut()` has written.
 fn fill(readings: &[Reading], places: &mut [Section])
-    requires { (length readings.now ≡ length places.old) × (first_unreadable_from 0 readings.now ≡ None) }
+    requires places { length readings.now ≡ length places.old }
+    requires readable { All (λ x. T (all_readable x)) readings.now }
     ensures { places.new ≡ map section_of readings.now }
 {
     for (i, reading) in readings.iter().enumerate() {
@@ -65,6 +64,7 @@ fn fill(readings: &[Reading], places: &mut [Section])
 }
 
 // Reads each reading into its place. A refusal leaves the places as they were.
+#[tactic(auto, using(crate::proofs::Nearness::each_rounded))]
 pub fn read_all(readings: &[Reading], places: &mut [Section]) -> Result<(), ReadingRefusal>
     ensures outcome { (said result, places.new) ≡ reading readings.now places.old }
     ensures rounded { said result ≡ all_read → EachRounded readings.now places.new }

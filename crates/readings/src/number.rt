@@ -14,6 +14,7 @@ const HALF: u64 = 1022;
 const ONES: u64 = 1075;
 
 // Whether x is finite and of magnitude at most `LIMIT`. A NaN differs from itself.
+#[tactic(auto, using(crate::proofs::Patterns::by_range))]
 pub(crate) fn is_readable(x: f64) -> bool
     ensures { result ≡ readable x }
 {
@@ -32,6 +33,7 @@ fn tie_of(below: u64) -> u64
 }
 
 // The whole number nearest to `mantissa` / 2^`shift`.
+#[tactic(auto, using(crate::proofs::Rounding::by_rest))]
 fn nearest_quotient(mantissa: u64, shift: u64) -> u64
     requires { (mantissa < 2 ^ 53) × (0 < shift) × (shift < 64) }
     ensures { result ≡ nearest mantissa (2 ^ shift) }
@@ -49,6 +51,7 @@ fn nearest_quotient(mantissa: u64, shift: u64) -> u64
 }
 
 // The whole number nearest to x, from its sign, its exponent and its mantissa.
+#[tactic(auto, using(crate::proofs::Patterns::by_pattern))]
 pub(crate) fn nearest_whole(x: f64) -> i64
     requires { T (readable x) }
     ensures { result ≡ whole_of x }
@@ -69,9 +72,5 @@ pub fn read(x: f64) -> Option<i64>
     ensures value { result ≡ read_of x }
     ensures rounded { (z : ℤ) → result ≡ Some z → Rounded x z }
 {
-    if is_readable(x) {
-        Some(nearest_whole(x))
-    } else {
-        None
-    }
+    is_readable(x).then(|| nearest_whole(x))
 }

@@ -26,12 +26,12 @@ impl Factor {
         }
     }
 
-    // The factor of so many hundredths.
+    // The factor of so many hundredths. No From, since a number says no unit.
     pub fn from_hundredths(hundredths: u8) -> Factor
         ensures { result.units ≡ hundredths * 1000 }
     {
         Factor {
-            units: hundredths as u32 * 1000,
+            units: u32::from(hundredths) * 1000,
         }
     }
 
@@ -39,7 +39,7 @@ impl Factor {
     pub fn product(hundredths: u8, tenths: u8) -> Factor
         ensures { result.units ≡ min most (hundredths * tenths * 100) }
     {
-        let units = hundredths as u32 * tenths as u32 * 100;
+        let units = u32::from(hundredths) * u32::from(tenths) * 100;
         Factor {
             units: units.min(1_000_000),
         }
@@ -49,7 +49,7 @@ impl Factor {
     pub fn scaled(self, hundredths: u8) -> Factor
         ensures { result.units ≡ scaled_by hundredths self.units }
     {
-        let units = (hundredths as u32 * self.units + 50) / 100;
+        let units = (u32::from(hundredths) * self.units + 50) / 100;
         Factor {
             units: units.min(1_000_000),
         }

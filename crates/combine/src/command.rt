@@ -11,7 +11,7 @@ pub enum Named<'a> {
     Name(&'a str),
 }
 
-// What is written of an action to be entered.
+// What is written of an action to be entered. Numbers and a letter, as the sheet takes them: its first questions are put to them.
 #[derive(Clone, Copy)]
 pub struct Entry<'a> {
     pub name: &'a str,
@@ -50,6 +50,7 @@ pub struct Fault<'a> {
 // An action is meant by its number where the word is one.
 impl<'a> From<&'a str> for Named<'a> {
     fn from(word: &'a str) -> Named<'a> {
+        // No map_or: a call of it is not covered where the closure's result borrows the word.
         match word.parse() {
             Ok(number) => Named::Number(number),
             Err(_) => Named::Name(word),
@@ -109,13 +110,6 @@ pub(crate) fn tidy(heap: Global, line: &str) -> Result<String, AllocError> {
     Ok(text)
 }
 
-// The only character of a word.
-pub(crate) fn single_letter(word: &str) -> Option<char> {
-    let mut letters = word.chars();
-    let first = letters.next()?;
-    letters.next().is_none().then_some(first)
-}
-
 fn word_or<'a>(words: &[&'a str], at: usize, default: &'a str) -> &'a str {
     words.get(at).copied().unwrap_or(default)
 }
@@ -138,7 +132,9 @@ fn parse_enter<'a>(words: &[&'a str]) -> Result<Edit<'a>, Fault<'a>> {
         "is no kind (permanent, prestress, variable, accidental, seismic, or a number)",
     ))?;
     let word = word_or(rest, 0, "-");
-    let letter = single_letter(word).ok_or(fault_at(word, "is no category letter and not '-'"))?;
+    let letter = word
+        .parse()
+        .map_err(|_| fault_at(word, "is no category letter and not '-'"))?;
     let word = word_or(rest, 1, "fixed");
     let spread = spread_number(word).ok_or(fault_at(
         word,
@@ -181,7 +177,9 @@ fn parse_recast<'a>(words: &[&'a str]) -> Result<Edit<'a>, Fault<'a>> {
     let [action, category] = words else {
         return Err(fault_of("write: recast ACTION CATEGORY"));
     };
-    let letter = single_letter(category).ok_or(fault_at(category, "is no category letter"))?;
+    let letter = category
+        .parse()
+        .map_err(|_| fault_at(category, "is no category letter"))?;
     Ok(Edit::Recast(Named::from(*action), letter))
 }
 

@@ -1,5 +1,5 @@
 // Rulebooks with layers over them: how they are written, and their factors as a table.
-use crate::command::{Fault, fault_at, fault_of, single_letter};
+use crate::command::{Fault, fault_at, fault_of};
 use crate::words::look_up;
 use basis::category::Category;
 use basis::factor::Factor;
@@ -73,7 +73,8 @@ fn parse_class(word: &str) -> Option<Class> {
 
 // The category of a word that is one letter.
 fn parse_category(word: &str) -> Option<Category> {
-    Category::try_from(single_letter(word)?).ok()
+    let letter: char = word.parse().ok()?;
+    Category::try_from(letter).ok()
 }
 
 // LAYER, as a word and its value
@@ -197,6 +198,7 @@ fn print_form<R: Rulebook>(rt: &impl Print, rules: &R, form: u8) -> io::Result<(
     Ok(())
 }
 
+// No Display: it would stand in the crate of the vocabulary, whose contracts cannot say what is printed.
 fn situation_word(situation: Situation) -> &'static str {
     match situation {
         Situation::Persistent => "persistent",
@@ -216,6 +218,7 @@ fn print_rulebook<R: Rulebook>(rt: &impl Print, rules: &R) -> io::Result<()> {
     Ok(())
 }
 
+// The second layer. Each layer makes another type, so each depth has a function.
 fn print_under<R: Rulebook>(rt: &impl Print, rules: R, layer: Option<Layer>) -> io::Result<()>
 where
     R: Drop,

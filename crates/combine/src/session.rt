@@ -14,7 +14,7 @@ pub enum State {
     Issued(Issued),
 }
 
-// The name of action i stands at place i.
+// The name of action i stands at place i: a sheet keeps no names, and a map from names would lose their order.
 #[derive(Drop)]
 pub struct Session {
     state: State,

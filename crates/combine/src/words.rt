@@ -46,6 +46,7 @@ pub(crate) fn spread_number(word: &str) -> Option<u8> {
     )
 }
 
+// The words of the text, and no Display: it would stand in the crate of the vocabulary, whose contracts cannot say what is printed.
 pub(crate) fn kind_word(kind: Kind) -> &'static str {
     match kind {
         Kind::Permanent => "permanent",

@@ -8,7 +8,8 @@ use super::Draft;
 use crate::action::{Action, Refusal};
 
 impl Draft {
-    // Enters an active action, and answers its number. Kind, spread and category go by their numbers and letters.
+    // Enters an active action, and answers its number. Kind, spread and category go by their numbers and letters, since the first
+    // questions are put to them.
     pub fn enter(&mut self, kind: u8, letter: char, spread: u8, parts: u8) -> Result<usize, Refusal>
         ensures { (said result, on_draft self.new) ≡ entering (on_draft self.old) kind letter spread parts }
     {

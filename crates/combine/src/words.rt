@@ -14,13 +14,12 @@ fn number_of<T: Copy>(table: &[(&str, T)], word: &str) -> Option<u8>
 where
     u8: From<T>,
 {
-    match look_up(table, word) {
-        Some(value) => Some(u8::from(value)),
-        None => word.parse().ok(),
-    }
+    look_up(table, word)
+        .map(u8::from)
+        .or_else(|| word.parse().ok())
 }
 
-// A kind's number, by its word or its number.
+// A kind's number, by its word or its number: the sheet puts its first question to the number.
 pub(crate) fn kind_number(word: &str) -> Option<u8> {
     number_of(
         &[

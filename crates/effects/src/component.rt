@@ -5,6 +5,7 @@ ghost use Rattle.effects.specs.Components.{stopped};
 // At 128 bits, since to saturate at 64 takes longer.
 const LIMIT: i128 = 1_000_000_000_000_000_000;
 
+// Proved to fit after the clamp, so no TryFrom.
 fn stop(z: i128) -> i64
     ensures { result ≡ stopped z }
 {

@@ -31,6 +31,7 @@ impl Reading {
         is_readable(self.axial) && is_readable(self.moment) && is_readable(self.shear)
     }
 
+    // No From, which cannot ask that the reading is readable.
     fn section(&self) -> Section
         requires { T (all_readable self.now) }
         ensures { result ≡ section_of self.now }

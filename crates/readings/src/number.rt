@@ -63,6 +63,7 @@ pub(crate) fn nearest_whole(x: f64) -> i64
         return 0;
     }
     let mantissa = (bits & 0xf_ffff_ffff_ffff) | 0x10_0000_0000_0000;
+    // Proved to fit, so no TryFrom, which would ask what to do if it did not.
     let size = nearest_quotient(mantissa, ONES - exponent) as i64;
     if is_negative { -size } else { size }
 }

@@ -16,7 +16,7 @@ pub enum Share {
     Psi2,
 }
 
-// A partial factor in hundredths, times a share.
+// A partial factor in hundredths, times a share. A row has one for leading and one for accompanying, as the table does.
 #[derive(Clone, Copy)]
 pub struct Term {
     gamma: u8,

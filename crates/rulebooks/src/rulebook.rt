@@ -51,7 +51,7 @@ pub trait Rulebook {
     ghost laws: { (r : Self) → BookLaws (meaning r) };
 }
 
-// The situation of a rulebook. Every rulebook, and so every pile of layers, keeps the laws.
+// The situation of a rulebook, which is taken for its type alone. Every rulebook, and so every pile of layers, keeps the laws.
 pub fn situation_of<R: Rulebook>(rules: &R) -> Situation
     ensures value { result ≡ (R.meaning rules.now).situation }
     ensures laws { BookLaws (R.meaning rules.now) }
@@ -60,7 +60,7 @@ pub fn situation_of<R: Rulebook>(rules: &R) -> Situation
     R::SITUATION
 }
 
-// The number of forms of a rulebook: 1 or 2.
+// The number of forms of a rulebook, which is taken for its type alone: 1 or 2.
 pub fn forms_of<R: Rulebook>(rules: &R) -> u8
     ensures { result ≡ (R.meaning rules.now).forms }
 {

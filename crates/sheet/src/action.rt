@@ -9,7 +9,8 @@ ghost use Rattle.sheet.specs.declared.action.Refusal.TheVariants.{NoSuchKind, Wr
 use basis::action::{Kind, Spread, UnknownKind, UnknownSpread};
 use basis::category::{Category, UnknownCategory};
 
-// One entry of a sheet. A variable action has a category, any other none.
+// One entry of a sheet. A variable action has a category, any other none; it stands beside the kind and not in it, since situations
+// and envelopes ask for a kind alone.
 #[derive(Clone, Copy, PartialEq, Eq, Debug)]
 pub struct Action {
     pub kind: Kind,

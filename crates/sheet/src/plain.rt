@@ -8,7 +8,8 @@ mod questions;
 mod table;
 
 // The actions in order of entry, and a mark for each excluded pair, at the row of the lower number and the column of the
-// higher.
+// higher: a table, since a set of pairs would ask for memory at a call. Contracts see it through `content` and not through a Model,
+// whose value could not hold the marks as a function of two numbers.
 #[derive(Drop)]
 pub struct Sheet {
     actions: Vec<Action>,

@@ -153,7 +153,8 @@ fn parse_enter<'a>(words: &[&'a str]) -> Result<Edit<'a>, Fault<'a>> {
     }))
 }
 
-// A call with the name or number of one action.
+// A call with the name or number of one action. One function with the number of actions as a const parameter has no proof: a
+// Result of an array of so many words is not covered.
 fn parse_one<'a>(words: &[&'a str], usage: &'static str) -> Result<Named<'a>, Fault<'a>> {
     match words {
         [action] => Ok(Named::from(*action)),

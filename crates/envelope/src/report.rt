@@ -44,10 +44,7 @@ fn set_number(leader: Option<usize>, set: u16) -> u16
     requires set { set < 4096 }
     ensures { result ≡ set + leader_bit leader }
 {
-    match leader {
-        Some(place) => set + (1 << place),
-        None => set,
-    }
+    leader.map_or(set, |place| set + (1 << place))
 }
 
 impl<'a, R: Rulebook, E: Effect> Prepared<'a, R, E> {
@@ -97,6 +94,7 @@ fn in_record(number: Option<usize>) -> Option<u8>
     requires { IfSome number (λ i. i < 32) }
     ensures { result ≡ number }
 {
+    // Proved to fit, so no TryFrom.
     number.map(|number| number as u8)
 }
 

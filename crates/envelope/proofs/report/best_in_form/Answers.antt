@@ -1,5 +1,4 @@
-use Rattle.std.proofs.Common.{◌≡◌, ◌≤◌, List, map, length, drop, refl, ap, ◌∙◌, mul-le-mul_right, arith}
-use lib.ListN.{length-map}
+use Rattle.std.proofs.Common.{◌≤◌, List, map, length, drop, refl, ap, ◌∙◌, mul-le-mul_right, arith}
 use Rattle.rulebooks.specs.Books.{Book}
 use Rattle.sheet.specs.declared.plain.Sheet.{Sheet}
 use Rattle.sheet.specs.Content.{content}
@@ -22,17 +21,8 @@ set_of g sheet book es supplied =
     grounded g.met.E.Effect.closed g.met.E.Effect.laws (content sheet) b es (sound_of _ (content sheet).actions sheet.limited sheet.formed)
     (laws_of b (law.some book) (law.permanent book) (law.variable book) (law.uppers book) (law.prestresses book) (law.leadings book)) supplied
 
-pub fill_strip-requires : goal.fill_strip-requires
-fill_strip-requires g c = record {
-  long = c.requires.long;
-  listed = c.requires.laid;
-  masked = ap length c.requires.full ∙ places_length 32 _ 0;
-  complete = sym_length c.args.effects.now ∙ c.requires.supplied.complete;
-  small = c.requires.supplied.small;
-}
-  where
-    sym_length : (es : List g.row.E.Denot) → length es ≡ length (map g.E.Effect.components es)
-    sym_length es = mathlib.Core.Path.sym (length-map es g.E.Effect.components)
+pub fill_strip-requires-clause-masked : goal.fill_strip-requires-clause-masked
+fill_strip-requires-clause-masked g c = ap length c.requires.full ∙ places_length 32 _ 0
 
 pub invariant_of-contest : goal.invariant_of-contest
 invariant_of-contest g c =

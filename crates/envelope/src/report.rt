@@ -14,7 +14,7 @@ ghost use Rattle.envelope.specs.Forms.{BestAmong};
 use crate::case::Case;
 use crate::combination::{Combination, Extreme};
 use crate::layout::laid_out;
-use crate::leaders::best_set;
+use crate::leaders::Contest;
 use crate::prepared::Prepared;
 use crate::roster::Roster;
 use effects::effect::Effect;
@@ -59,9 +59,14 @@ impl<'a, R: Rulebook, E: Effect> Prepared<'a, R, E> {
         ensures rest { drop 24 strip.new ≡ drop 24 strip.old }
     {
         self.fill_strip(strip, form);
-        let base = self.base(form);
-        let leads = self.case.book.has_leader(form);
-        let peak = best_set(self.roster, &strip[0..12], &strip[12..24], leads, base);
+        let contest = Contest {
+            roster: self.roster,
+            leading: &strip[0..12],
+            accompanying: &strip[12..24],
+            leads: self.case.book.has_leader(form),
+            base: self.base(form),
+        };
+        let peak = contest.best_set();
         Candidate {
             form,
             leader: leader_number(self.roster, peak.leader),

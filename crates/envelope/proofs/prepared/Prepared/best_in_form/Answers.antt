@@ -3,49 +3,33 @@ use Rattle.sheet.specs.Content.{content}
 use Rattle.sheet.proofs.Marks.{marks_symmetric}
 use Rattle.sheet.proofs.Laws.{sound_from}
 use Rattle.envelope.proofs.Ground.{on_sheet}
-use Rattle.envelope.proofs.InForm.{form_searchable, form_place, form_set, form_best}
+use Rattle.envelope.proofs.InForm.{form_searchable, form_best}
 use Rattle.envelope.proofs.prepared.Prepared.best_in_form.Goals as goal
 
-pub best_set-peak-requires : goal.best_set-peak-requires
-best_set-peak-requires g c =
+pub invariant_of-contest : goal.invariant_of-contest
+invariant_of-contest g c =
     let met = g.met.E.Effect in
-    form_searchable met.closed met.laws (content c.args.self.now.case.now.sheet.now) (g.R.Rulebook.meaning c.args.self.now.case.now.book.now) (map g.E.Effect.components c.args.self.now.case.now.effects.now)
-    (on_sheet met.closed met.laws c.args.self.now.case.now.sheet.now _ c.args.self.now.case.now.effects.now (g.met.R.Rulebook.laws c.args.self.now.case.now.book.now) c.args.self.now.case.now.supplied) c.args.self.now.case.now.sheet.now.limited.2 c.args.form
-    c.fill_strip.new.strip (drop 24 (map g.E.Effect.components c.args.strip.now)) c.args.self.now.masks.now c.args.self.now.roster.now c.has_leader-leads.result c.base-base.result
-    c.args.self.now.full c.args.self.now.placed c.fill_strip.ensures.halves c.has_leader-leads.ensures c.base-base.ensures
-
-pub leader_number-requires : goal.leader_number-requires
-leader_number-requires g c =
-    let met = g.met.E.Effect in
-    form_place met.closed met.laws (content c.args.self.now.case.now.sheet.now) (g.R.Rulebook.meaning c.args.self.now.case.now.book.now) (map g.E.Effect.components c.args.self.now.case.now.effects.now)
-    (on_sheet met.closed met.laws c.args.self.now.case.now.sheet.now _ c.args.self.now.case.now.effects.now (g.met.R.Rulebook.laws c.args.self.now.case.now.book.now) c.args.self.now.case.now.supplied) c.args.self.now.case.now.sheet.now.limited.2 c.args.form
-    c.fill_strip.new.strip (drop 24 (map g.E.Effect.components c.args.strip.now)) c.args.self.now.masks.now c.args.self.now.roster.now c.has_leader-leads.result c.base-base.result
-    c.args.self.now.full c.args.self.now.placed c.fill_strip.ensures.halves c.has_leader-leads.ensures c.base-base.ensures c.best_set-peak.result.leader c.best_set-peak.ensures.best.may_lead
-
-pub set_number-requires : goal.set_number-requires
-set_number-requires g c =
-    let met = g.met.E.Effect in
-    record {
-      place = form_place met.closed met.laws (content c.args.self.now.case.now.sheet.now) (g.R.Rulebook.meaning c.args.self.now.case.now.book.now) (map g.E.Effect.components c.args.self.now.case.now.effects.now)
-          (on_sheet met.closed met.laws c.args.self.now.case.now.sheet.now _ c.args.self.now.case.now.effects.now (g.met.R.Rulebook.laws c.args.self.now.case.now.book.now) c.args.self.now.case.now.supplied) c.args.self.now.case.now.sheet.now.limited.2 c.args.form
-          c.fill_strip.new.strip (drop 24 (map g.E.Effect.components c.args.strip.now)) c.args.self.now.masks.now c.args.self.now.roster.now c.has_leader-leads.result c.base-base.result
-          c.args.self.now.full c.args.self.now.placed c.fill_strip.ensures.halves c.has_leader-leads.ensures c.base-base.ensures c.best_set-peak.result.leader c.best_set-peak.ensures.best.may_lead;
-      set = form_set met.closed met.laws (content c.args.self.now.case.now.sheet.now) (g.R.Rulebook.meaning c.args.self.now.case.now.book.now) (map g.E.Effect.components c.args.self.now.case.now.effects.now)
-          (on_sheet met.closed met.laws c.args.self.now.case.now.sheet.now _ c.args.self.now.case.now.effects.now (g.met.R.Rulebook.laws c.args.self.now.case.now.book.now) c.args.self.now.case.now.supplied) c.args.self.now.case.now.sheet.now.limited.2 c.args.form
-          c.fill_strip.new.strip (drop 24 (map g.E.Effect.components c.args.strip.now)) c.args.self.now.masks.now c.args.self.now.roster.now c.has_leader-leads.result c.base-base.result
-          c.args.self.now.full c.args.self.now.placed c.fill_strip.ensures.halves c.has_leader-leads.ensures c.base-base.ensures c.best_set-peak.result.set c.best_set-peak.ensures.best.numbered;
-    }
+    let prepared = c.args.self.now in
+    let case = prepared.case.now in
+    let b = g.R.Rulebook.meaning case.book.now in
+    let set = on_sheet met.closed met.laws case.sheet.now b case.effects.now (g.met.R.Rulebook.laws case.book.now) case.supplied in
+    form_searchable met.closed met.laws (content case.sheet.now) b (map g.E.Effect.components case.effects.now) set case.sheet.now.limited.2 c.args.form
+    c.fill_strip.new.strip (drop 24 (map g.E.Effect.components c.args.strip.now)) prepared.masks.now prepared.roster.now c.has_leader.result c.base.result
+    prepared.full prepared.placed c.fill_strip.ensures.halves c.has_leader.ensures c.base.ensures
 
 pub returns : goal.returns
 returns g c =
     let met = g.met.E.Effect in
-    let sheet = c.args.self.now.case.now.sheet.now in
+    let prepared = c.args.self.now in
+    let case = prepared.case.now in
+    let sheet = case.sheet.now in
+    let b = g.R.Rulebook.meaning case.book.now in
+    let set = on_sheet met.closed met.laws sheet b case.effects.now (g.met.R.Rulebook.laws case.book.now) case.supplied in
     let sound = sound_from (content sheet) sheet.limited sheet.formed sheet.paired (marks_symmetric sheet.marks) in
-    let h = form_best met.closed met.laws (content sheet) (g.R.Rulebook.meaning c.args.self.now.case.now.book.now) (map g.E.Effect.components c.args.self.now.case.now.effects.now)
-    (on_sheet met.closed met.laws sheet _ c.args.self.now.case.now.effects.now (g.met.R.Rulebook.laws c.args.self.now.case.now.book.now) c.args.self.now.case.now.supplied) sheet.limited.2 c.args.form
-    c.fill_strip.new.strip (drop 24 (map g.E.Effect.components c.args.strip.now)) c.args.self.now.masks.now c.args.self.now.roster.now c.has_leader-leads.result c.base-base.result
-    c.args.self.now.full c.args.self.now.placed c.fill_strip.ensures.halves c.has_leader-leads.ensures c.base-base.ensures
-    c.args.self.now.hand c.requires.one sound.symmetric sound.irreflexive
+    let h = form_best met.closed met.laws (content sheet) b (map g.E.Effect.components case.effects.now) set sheet.limited.2 c.args.form
+    c.fill_strip.new.strip (drop 24 (map g.E.Effect.components c.args.strip.now)) prepared.masks.now prepared.roster.now c.has_leader.result c.base.result
+    prepared.full prepared.placed c.fill_strip.ensures.halves c.has_leader.ensures c.base.ensures
+    prepared.hand c.requires.one sound.symmetric sound.irreflexive
     c.best_set-peak.result.leader c.leader_number.result c.best_set-peak.result.set c.set_number.result (g.E.Effect.components c.best_set-peak.result.effect)
     c.best_set-peak.ensures.best c.best_set-peak.ensures.effect c.leader_number.ensures c.set_number.ensures in
     record { form = refl; best = h.0; effect = h.1; halves = c.fill_strip.ensures.halves; rest = c.fill_strip.ensures.rest }

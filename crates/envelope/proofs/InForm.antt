@@ -1,5 +1,5 @@
 -- The best combination of a form, from what the code has at hand.
-use Rattle.std.proofs.Common.{◌≡◌, ℕ, ◌+◌, ◌-◌, ◌^◌, ◌<◌, ◌≤◌, Bool, true, false, ◌||◌, T, List, [], ◌++◌, map, length, get_or, take, drop, ℤ, IfSome, Some, None, Option, sym, refl, ap, ◌∙◌, subst, inl, inr, arith, length-append, pow_mono}
+use Rattle.std.proofs.Common.{◌≡◌, ℕ, ◌+◌, ◌-◌, ◌^◌, ◌<◌, ◌≤◌, Bool, true, false, ◌||◌, T, List, [], ◌++◌, map, length, get_or, take, drop, ℤ, Some, None, Option, sym, refl, ap, ◌∙◌, subst, inl, inr, arith, length-append, pow_mono}
 use lib.Bits.{bit_or}
 use Rattle.std.proofs.lemmas.List.{take-map, drop-map, take-append-le, drop-append-le, take_all, drop_all}
 use Rattle.std.proofs.lemmas.Bool.{cases_lt}
@@ -167,20 +167,6 @@ module _ {E : Type 0} {components : E → List ℤ} {count : ℕ} {reaches : Lis
 
   pub form_searchable : Searchable count reaches r.apart (handed r)
   form_searchable = subst (λ q. Searchable count reaches q.apart (handed q)) (sym roster_is) (searchable_by kind laws s b xss set few f (take 12 strip) (take 12 (drop 12 strip)) leads base leads_is ahead_is beside_is base_is)
-
-  counted : r.count ≡ variables s.actions
-  counted = ap (λ (q : Roster). q.count) roster_is
-
-  pub form_place : (l : Option ℕ) → MayLead (handed r) l → IfSome l (λ q. q < 12)
-  form_place None m = tt
-  form_place (Some q) (e, h, c) = let n = counted in omega arith
-
-  pub form_set : (u : ℕ) → u < 2 ^ r.count → u < 4096
-  form_set u h =
-      let n = counted in
-      let k : r.count ≤ 12 = omega arith in
-      let p : 2 ^ r.count ≤ 2 ^ 12 = pow_mono k in
-      omega arith
 
   pub form_best : event_at_hand (event_kind b.situation) s ≡ true → f < b.forms → ((i j : ℕ) → s.marked i j ≡ s.marked j i) → ((i : ℕ) → s.marked i i ≡ false)
       → (l m : Option ℕ) (u t : ℕ) (d : List ℤ) → BestSet reaches (handed r) l u → d ≡ worth (handed r) l u → m ≡ option_map (λ q. get_or r.numbers q 0) l → t ≡ u + leader_bit l

@@ -17,7 +17,7 @@ use crate::base::base_of;
 use crate::combination::{Combination, Extreme};
 use crate::entry::Slot;
 use crate::layout::{laid_out, masks_in, roster_of};
-use crate::leaders::best_set;
+use crate::leaders::Contest;
 use crate::masks::{chosen_event, full_masks};
 use crate::roster::Roster;
 use crate::strip::fill_strip;
@@ -82,9 +82,14 @@ fn best_in_form<R: Rulebook, E: Effect>(
     ensures rest { drop 24 strip.new ≡ drop 24 strip.old }
 {
     fill_strip(strip, sheet, entries, masks, effects, book, form);
-    let base = base_of(sheet, entries, effects, masks, book, form);
-    let leads = book.has_leader(form);
-    let peak = best_set(roster, &strip[0..12], &strip[12..24], leads, base);
+    let contest = Contest {
+        roster,
+        leading: &strip[0..12],
+        accompanying: &strip[12..24],
+        leads: book.has_leader(form),
+        base: base_of(sheet, entries, effects, masks, book, form),
+    };
+    let peak = contest.best_set();
     Candidate {
         form,
         leader: leader_number(roster, peak.leader),

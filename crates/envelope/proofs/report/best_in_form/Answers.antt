@@ -1,5 +1,4 @@
-use Rattle.std.proofs.Common.{◌≡◌, ◌≤◌, List, map, length, drop, refl, ap, ◌∙◌, mul-le-mul_right, arith}
-use lib.ListN.{length-map}
+use Rattle.std.proofs.Common.{◌≤◌, List, map, length, drop, refl, ap, ◌∙◌, mul-le-mul_right, arith}
 use Rattle.rulebooks.specs.Books.{Book}
 use Rattle.sheet.specs.declared.plain.Sheet.{Sheet}
 use Rattle.sheet.specs.Content.{content}
@@ -9,7 +8,7 @@ use Rattle.envelope.specs.Supplied.{Supplied}
 use Rattle.envelope.proofs.Setting.{Setting}
 use Rattle.envelope.proofs.Numbering.{places_length}
 use Rattle.envelope.proofs.Ground.{sound_of, laws_of, grounded}
-use Rattle.envelope.proofs.InForm.{form_searchable, form_place, form_set, form_best}
+use Rattle.envelope.proofs.InForm.{form_searchable, form_best}
 use Rattle.envelope.proofs.report.best_in_form.Given as given
 use Rattle.envelope.proofs.report.best_in_form.Goals as goal
 
@@ -22,47 +21,16 @@ set_of g sheet book es supplied =
     grounded g.met.E.Effect.closed g.met.E.Effect.laws (content sheet) b es (sound_of _ (content sheet).actions sheet.limited sheet.formed)
     (laws_of b (law.some book) (law.permanent book) (law.variable book) (law.uppers book) (law.prestresses book) (law.leadings book)) supplied
 
-pub fill_strip-requires : goal.fill_strip-requires
-fill_strip-requires g c = record {
-  long = c.requires.long;
-  listed = c.requires.laid;
-  masked = ap length c.requires.full ∙ places_length 32 _ 0;
-  complete = sym_length c.args.effects.now ∙ c.requires.supplied.complete;
-  small = c.requires.supplied.small;
-}
-  where
-    sym_length : (es : List g.row.E.Denot) → length es ≡ length (map g.E.Effect.components es)
-    sym_length es = mathlib.Core.Path.sym (length-map es g.E.Effect.components)
+pub fill_strip-requires-clause-masked : goal.fill_strip-requires-clause-masked
+fill_strip-requires-clause-masked g c = ap length c.requires.full ∙ places_length 32 _ 0
 
-pub best_set-peak-requires : goal.best_set-peak-requires
-best_set-peak-requires g c =
+pub invariant_of-contest : goal.invariant_of-contest
+invariant_of-contest g c =
     let met = g.met.E.Effect in
     form_searchable met.closed met.laws (content c.args.sheet.now) (g.R.Rulebook.meaning c.args.book.now) (map g.E.Effect.components c.args.effects.now)
     (set_of g c.args.sheet.now c.args.book.now c.args.effects.now c.requires.supplied) c.args.sheet.now.limited.2 c.args.form
-    c.fill_strip.new.strip (drop 24 (map g.E.Effect.components c.args.strip.now)) c.args.masks.now c.args.roster.now c.has_leader-leads.result c.base_of-base.result
-    c.requires.full c.requires.placed c.fill_strip.ensures.halves c.has_leader-leads.ensures c.base_of-base.ensures
-
-pub leader_number-requires : goal.leader_number-requires
-leader_number-requires g c =
-    let met = g.met.E.Effect in
-    form_place met.closed met.laws (content c.args.sheet.now) (g.R.Rulebook.meaning c.args.book.now) (map g.E.Effect.components c.args.effects.now)
-    (set_of g c.args.sheet.now c.args.book.now c.args.effects.now c.requires.supplied) c.args.sheet.now.limited.2 c.args.form
-    c.fill_strip.new.strip (drop 24 (map g.E.Effect.components c.args.strip.now)) c.args.masks.now c.args.roster.now c.has_leader-leads.result c.base_of-base.result
-    c.requires.full c.requires.placed c.fill_strip.ensures.halves c.has_leader-leads.ensures c.base_of-base.ensures c.best_set-peak.result.leader c.best_set-peak.ensures.best.may_lead
-
-pub set_number-requires : goal.set_number-requires
-set_number-requires g c =
-    let met = g.met.E.Effect in
-    record {
-      place = form_place met.closed met.laws (content c.args.sheet.now) (g.R.Rulebook.meaning c.args.book.now) (map g.E.Effect.components c.args.effects.now)
-          (set_of g c.args.sheet.now c.args.book.now c.args.effects.now c.requires.supplied) c.args.sheet.now.limited.2 c.args.form
-          c.fill_strip.new.strip (drop 24 (map g.E.Effect.components c.args.strip.now)) c.args.masks.now c.args.roster.now c.has_leader-leads.result c.base_of-base.result
-          c.requires.full c.requires.placed c.fill_strip.ensures.halves c.has_leader-leads.ensures c.base_of-base.ensures c.best_set-peak.result.leader c.best_set-peak.ensures.best.may_lead;
-      set = form_set met.closed met.laws (content c.args.sheet.now) (g.R.Rulebook.meaning c.args.book.now) (map g.E.Effect.components c.args.effects.now)
-          (set_of g c.args.sheet.now c.args.book.now c.args.effects.now c.requires.supplied) c.args.sheet.now.limited.2 c.args.form
-          c.fill_strip.new.strip (drop 24 (map g.E.Effect.components c.args.strip.now)) c.args.masks.now c.args.roster.now c.has_leader-leads.result c.base_of-base.result
-          c.requires.full c.requires.placed c.fill_strip.ensures.halves c.has_leader-leads.ensures c.base_of-base.ensures c.best_set-peak.result.set c.best_set-peak.ensures.best.numbered;
-    }
+    c.fill_strip.new.strip (drop 24 (map g.E.Effect.components c.args.strip.now)) c.args.masks.now c.args.roster.now c.has_leader.result c.base_of.result
+    c.requires.full c.requires.placed c.fill_strip.ensures.halves c.has_leader.ensures c.base_of.ensures
 
 pub returns : goal.returns
 returns g c =
@@ -71,8 +39,8 @@ returns g c =
     let sound = sound_from (content sheet) sheet.limited sheet.formed sheet.paired (marks_symmetric sheet.marks) in
     let h = form_best met.closed met.laws (content sheet) (g.R.Rulebook.meaning c.args.book.now) (map g.E.Effect.components c.args.effects.now)
     (set_of g sheet c.args.book.now c.args.effects.now c.requires.supplied) sheet.limited.2 c.args.form
-    c.fill_strip.new.strip (drop 24 (map g.E.Effect.components c.args.strip.now)) c.args.masks.now c.args.roster.now c.has_leader-leads.result c.base_of-base.result
-    c.requires.full c.requires.placed c.fill_strip.ensures.halves c.has_leader-leads.ensures c.base_of-base.ensures
+    c.fill_strip.new.strip (drop 24 (map g.E.Effect.components c.args.strip.now)) c.args.masks.now c.args.roster.now c.has_leader.result c.base_of.result
+    c.requires.full c.requires.placed c.fill_strip.ensures.halves c.has_leader.ensures c.base_of.ensures
     c.requires.hand c.requires.one sound.symmetric sound.irreflexive
     c.best_set-peak.result.leader c.leader_number.result c.best_set-peak.result.set c.set_number.result (g.E.Effect.components c.best_set-peak.result.effect)
     c.best_set-peak.ensures.best c.best_set-peak.ensures.effect c.leader_number.ensures c.set_number.ensures in

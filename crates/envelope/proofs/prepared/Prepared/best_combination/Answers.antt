@@ -10,9 +10,6 @@ use Rattle.envelope.proofs.Forms.{Found, found_first, found_keeps, found_takes, 
 use Rattle.envelope.proofs.prepared.Prepared.best_combination.Goals as goal
 use Rattle.envelope.proofs.prepared.Prepared.best_combination.Goals.{then-not-at_or_above, else-not-at_or_above}
 
-pub best_in_form-best-requires : goal.best_in_form-best-requires
-best_in_form-best-requires g c = record { one = omega (arith, (g.met.R.Rulebook.laws c.args.self.now.case.now.book.now).some); long = c.requires }
-
 pub loop-form-init : goal.loop-form-init
 loop-form-init g c =
     let met = g.met.E.Effect in
@@ -21,12 +18,6 @@ loop-form-init g c =
     let set = on_sheet met.closed met.laws c.args.self.now.case.now.sheet.now _ c.args.self.now.case.now.effects.now (g.met.R.Rulebook.laws c.args.self.now.case.now.book.now) c.args.self.now.case.now.supplied in
     let h = found_first met.closed met.laws _ _ _ set best.result.form best.result.leader best.result.set (e.components best.result.effect) best.ensures.form (best.ensures.best, best.ensures.effect) in
     (h.0, h.1, best.ensures.halves ∙ ap (λ r. both_halves e.count (map e.components c.args.self.now.case.now.effects.now) c.args.self.now.masks.now ((g.R.Rulebook.meaning c.args.self.now.case.now.book.now).form 0) (content c.args.self.now.case.now.sheet.now) ++ r) (sym (rest_same e.components best.new.strip c.args.strip.now best.ensures.rest)), refl)
-
-pub best_in_form-other-requires : goal.best_in_form-other-requires
-best_in_form-other-requires g c = record {
-  one = omega (arith, c.forms_of-form-end.ensures, c.loop-form-test.true);
-  long = omega (arith, c.loop-form.auto.strip, c.best_in_form-best.auto.strip, c.requires);
-}
 
 pub loop-form-preserved : goal.loop-form-preserved
 loop-form-preserved g c =

@@ -59,6 +59,7 @@ impl<'a, E: Effect> Parts<'a, E> {
     pub(crate) fn all(&self) -> u16
         ensures { result ≡ whole (length self.now) }
     {
+        // proved to fit, so no TryFrom
         ((1u32 << self.effects.len()) - 1) as u16
     }
 

@@ -12,13 +12,14 @@ use Rattle.rulebooks.specs.Books.{Book, BookLaws}
 use Rattle.sheet.specs.declared.action.Action.{Action}
 use Rattle.sheet.specs.declared.plain.Sheet.{Sheet}
 use Rattle.sheet.specs.Content.{Content, content}
-use Rattle.sheet.specs.Limits.{no_action, agree, parts_allowed, Limited, Formed}
+use Rattle.sheet.specs.Limits.{no_action, variables, agree, parts_allowed, Limited, Formed}
 use Rattle.envelope.specs.declared.entry.Entry.{Entry}
 use Rattle.envelope.specs.Entries.{entries, parts_of, nowhere}
-use Rattle.envelope.specs.Supplied.{Supplied, OneAction}
+use Rattle.envelope.specs.Supplied.{Supplied, OneAction, IsWithin}
 use Rattle.envelope.proofs.Numbering.{entry_at, entries_length, entry_parts, at_number, at_action, of_number}
 use Rattle.envelope.proofs.Weights.{parts_of_values}
 use Rattle.envelope.proofs.Setting.{Setting}
+use Rattle.envelope.proofs.Walk as walk
 use Rattle.envelope.proofs.Promised.{Sound, formed_all, form_laws}
 
 -- an action has at most 16 parts
@@ -107,3 +108,11 @@ pub at_hand : {E : Type 0} (components : E → List ℤ) (sheet : Sheet) (list :
     → Contains list e → AtHand components es e
 at_hand components sheet list es e is supplied member =
     elements.All-contains (AtHand components es) list e (elements.All-from_get_or (AtHand components es) list nowhere (λ i l. at_turn components (content sheet) es sheet.formed supplied list i is l)) member
+
+-- what is known of the entries of a sheet that keeps its limits
+pub entries_within : (s : Content) (list : List Entry) → list ≡ entries s → length s.actions ≤ 32 → variables s.actions ≤ 12 → IsWithin list
+entries_within s list is short few = record {
+  number = λ i l. turn_within s list i is short l;
+  place = λ i l. walk.place_most s list is i l few;
+  variable = λ i l. walk.place_below s list is i l few;
+}

@@ -3,7 +3,7 @@ ghost use Rattle.std.specs.Prelude.{◌≡◌, map};
 ghost use Rattle.std.proofs.Props.{props};
 ghost use Rattle.sheet.specs.Content.{content};
 ghost use Rattle.envelope.specs.Entries.{entries as entries_of};
-ghost use Rattle.envelope.specs.Supplied.{Supplied};
+ghost use Rattle.envelope.specs.Supplied.{Supplied, IsWithin};
 
 use crate::entry::Entry;
 use effects::effect::Effect;
@@ -18,5 +18,6 @@ pub(crate) struct Case<'a, R: Rulebook, E: Effect> {
     pub(crate) effects: &'a [E],
     pub(crate) book: &'a R,
     ghost laid: { entries.now ≡ entries_of (content sheet.now) },
+    ghost within: { IsWithin entries.now },
     ghost supplied: { Supplied (content sheet.now) (map E.components effects.now) } by { Prim.hlevel props },
 }

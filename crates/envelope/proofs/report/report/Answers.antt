@@ -2,15 +2,15 @@ use Rattle.std.proofs.Common.{map, drop, sym, ap, ◌∙◌}
 use Rattle.rulebooks.specs.Books.{Book}
 use Rattle.sheet.specs.Content.{content}
 use Rattle.envelope.specs.Combinations.{effect_of}
-use Rattle.envelope.proofs.Ground.{on_sheet}
+use Rattle.envelope.proofs.Ground.{on_sheet, entries_within}
 use Rattle.envelope.proofs.Recorded.{laid_here, leader_fits, event_fits, recorded, reported_so, strip_left}
 use Rattle.envelope.proofs.report.report.Goals as goal
 
 pub invariant_of-case : goal.invariant_of-case
-invariant_of-case g c = record {
-  laid = laid_here (content c.args.sheet.now) c.laid_out-places.result c.actions.result.now c.actions.ensures c.args.sheet.now.limited.1 c.laid_out-places.ensures;
-  supplied = c.requires.supplied;
-}
+invariant_of-case g c =
+    let sheet = c.args.sheet.now in
+    let laid = laid_here (content sheet) c.laid_out-places.result c.actions.result.now c.actions.ensures sheet.limited.1 c.laid_out-places.ensures in
+    record { laid = laid; within = entries_within (content sheet) _ laid sheet.limited.1 sheet.limited.2; supplied = c.requires.supplied }
 
 pub in_record-requires : goal.in_record-requires
 in_record-requires g c =

@@ -1,21 +1,12 @@
-use Rattle.std.proofs.Common.{◌<◌, map, get_or, rules}
+use Rattle.std.proofs.Common.{map, get_or}
 use Rattle.rulebooks.specs.Books.{Book}
 use Rattle.sheet.specs.Content.{Content, content}
 use Rattle.envelope.specs.Entries.{nowhere}
 use Rattle.envelope.proofs.Variables.{placed}
 use Rattle.envelope.proofs.MaskWalk.{mask_is, mask_there}
-use Rattle.envelope.proofs.Ground.{turn_within, of_turn}
+use Rattle.envelope.proofs.Ground.{of_turn}
 use Rattle.envelope.proofs.Walk.{numbered_more}
 use Rattle.envelope.proofs.case.Case.full_masks.Goals as goal
-
-pub offset_bounds-masks-entry : goal.offset_bounds-masks-entry
-offset_bounds-masks-entry g c =
-    let h : (get_or c.args.self.now.entries.now c.loop-entry.entry-index nowhere).number < 32 =
-    turn_within (content c.args.self.now.sheet.now) c.args.self.now.entries.now c.loop-entry.entry-index c.args.self.now.laid c.args.self.now.sheet.now.limited.1 c.loop-entry-test.true in
-    search rules
-
-pub bounds-masks-entry : goal.bounds-masks-entry
-bounds-masks-entry g c = turn_within (content c.args.self.now.sheet.now) c.args.self.now.entries.now c.loop-entry.entry-index c.args.self.now.laid c.args.self.now.sheet.now.limited.1 c.loop-entry-test.true
 
 pub loop-entry-preserved : goal.loop-entry-preserved
 loop-entry-preserved g c =

@@ -1,4 +1,4 @@
-use Rattle.std.proofs.Common.{map, get_or, sym, ap, ◌∙◌, arith}
+use Rattle.std.proofs.Common.{map, get_or, sym, ap, ◌∙◌}
 use Rattle.std.proofs.lemmas.List.{take_more}
 use Rattle.effects.specs.Supplies.{exact_total}
 use Rattle.rulebooks.specs.Books.{Book}
@@ -7,19 +7,9 @@ use Rattle.envelope.specs.Entries.{nowhere}
 use Rattle.envelope.specs.Reported.{base_share}
 use Rattle.envelope.proofs.Setting.{owned}
 use Rattle.envelope.proofs.Candidates.{known}
-use Rattle.envelope.proofs.Ground.{on_sheet, turn_within, of_turn}
+use Rattle.envelope.proofs.Ground.{on_sheet, of_turn}
 use Rattle.envelope.proofs.BaseWalk.{share_added, share_read}
 use Rattle.envelope.proofs.prepared.Prepared.base.Goals as goal
-
-pub offset_bounds-self-entry : goal.offset_bounds-self-entry
-offset_bounds-self-entry g c =
-    let case = c.args.self.now.case.now in
-    omega (arith, turn_within (content case.sheet.now) case.entries.now c.loop-entry.entry-index case.laid case.sheet.now.limited.1 c.loop-entry-test.true)
-
-pub bounds-self-entry : goal.bounds-self-entry
-bounds-self-entry g c =
-    let case = c.args.self.now.case.now in
-    turn_within (content case.sheet.now) case.entries.now c.loop-entry.entry-index case.laid case.sheet.now.limited.1 c.loop-entry-test.true
 
 pub loop-entry-preserved : goal.loop-entry-preserved
 loop-entry-preserved g c =

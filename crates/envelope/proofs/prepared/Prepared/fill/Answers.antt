@@ -1,4 +1,4 @@
-use Rattle.std.proofs.Common.{ℕ, ◌<◌, List, map, length, get_or, ℤ, sym, ap, ◌∙◌, arith, rules}
+use Rattle.std.proofs.Common.{ℕ, List, map, get_or, ℤ, sym, ap, ◌∙◌, arith, rules}
 use Rattle.std.proofs.lemmas.List.{map-set}
 use Rattle.effects.specs.Components.{zeros}
 use Rattle.sheet.specs.Content.{content}
@@ -6,8 +6,7 @@ use Rattle.envelope.specs.declared.entry.Entry.{Entry}
 use Rattle.envelope.specs.Entries.{nowhere}
 use Rattle.envelope.specs.Layout.{role_factor, contribution_by}
 use Rattle.envelope.proofs.Filling.{contributed, made_alike}
-use Rattle.envelope.proofs.Ground.{turn_within}
-use Rattle.envelope.proofs.Walk.{place_below, placed_all, placed_no, placed_yes}
+use Rattle.envelope.proofs.Walk.{placed_all, placed_no, placed_yes}
 use Rattle.envelope.proofs.prepared.Prepared.fill.Goals as goal
 use Rattle.envelope.proofs.prepared.Prepared.fill.Goals.{then-is_variable, else-is_variable}
 
@@ -15,26 +14,6 @@ pub loop-entry-init : goal.loop-entry-init
 loop-entry-init g c =
     let k = g.E.Effect in
     made_alike k.components (zeros k.count) _ (λ f x f' made. search rules) _ _ c.fill_with.new.self 12 c.fill_with.ensures.ran.1 (omega arith)
-
-pub offset_bounds-self-entry : goal.offset_bounds-self-entry
-offset_bounds-self-entry g c =
-    let s = c.args.self.now.case.now.sheet.now in
-    omega (arith, turn_within (content s) c.args.self.now.case.now.entries.now c.loop-entry.entry-index c.args.self.now.case.now.laid s.limited.1 (omega arith))
-
-pub bounds-self-entry : goal.bounds-self-entry
-bounds-self-entry g c =
-    let s = c.args.self.now.case.now.sheet.now in
-    omega (arith, turn_within (content s) c.args.self.now.case.now.entries.now c.loop-entry.entry-index c.args.self.now.case.now.laid s.limited.1 (omega arith))
-
-pub bounds-half-entry : goal.bounds-half-entry
-bounds-half-entry g c =
-    let s = c.args.self.now.case.now.sheet.now in
-    omega (arith, place_below (content s) c.args.self.now.case.now.entries.now c.args.self.now.case.now.laid c.loop-entry.entry-index (omega arith) s.limited.2 (sym c.is_variable.ensures ∙ c.if-is_variable.true))
-
-pub offset_bounds-half-entry : goal.offset_bounds-half-entry
-offset_bounds-half-entry g c =
-    let within : (get_or c.args.self.now.case.now.entries.now c.loop-entry.entry-index nowhere).place < length c.loop-entry.half = bounds-half-entry g c in
-    search rules
 
 pub loop-entry-preserved : goal.loop-entry-preserved
 loop-entry-preserved g c =

@@ -28,33 +28,3 @@ returns-then-room-lt-STRIP g c =
     let bl = g.met.R.Rulebook.laws c.args.book.now in
     answer_11 met.closed met.laws (content sheet) b es so bl c.args.room (length-map es g.E.Effect.components ∙ c.if-effects-parts.false ∙ c.parts.ensures) c.if-room-lt-STRIP.true
 
-pub returns-in-Some : goal.returns-in-Some
-returns-in-Some g c =
-    let met = g.met.E.Effect in
-    let sheet = c.args.sheet.now in
-    let b : Book = g.R.Rulebook.meaning c.args.book.now in
-    let es = c.args.effects.now in
-    let so = sound_of _ (content sheet).actions sheet.limited sheet.formed in
-    let bl = g.met.R.Rulebook.laws c.args.book.now in
-    answer_12 met.closed met.laws (content sheet) b es so bl c.args.room c.in-Some.part (length-map es g.E.Effect.components ∙ c.if-effects-parts.false ∙ c.parts.ensures) c.if-room-lt-STRIP.false (sym c.in-Some.ensures)
-
-pub returns-then-not-is_at_hand : goal.returns-then-not-is_at_hand
-returns-then-not-is_at_hand g c =
-    let met = g.met.E.Effect in
-    let sheet = c.args.sheet.now in
-    let b : Book = g.R.Rulebook.meaning c.args.book.now in
-    let es = c.args.effects.now in
-    let so = sound_of _ (content sheet).actions sheet.limited sheet.formed in
-    let bl = g.met.R.Rulebook.laws c.args.book.now in
-    answer_13 met.closed met.laws (content sheet) b es so bl c.args.room (length-map es g.E.Effect.components ∙ c.if-effects-parts.false ∙ c.parts.ensures) c.if-room-lt-STRIP.false (sym c.in_default.ensures) (sym (c.is_at_hand.ensures ∙ ap (λ k. event_at_hand k (content sheet)) (c.event_kind.ensures ∙ ap event_kind c.situation_of.ensures.value)) ∙ c.if-not-is_at_hand.true)
-
-pub returns : goal.returns
-returns g c =
-    let sheet = c.args.sheet.now in
-    let es = c.args.effects.now in
-    record {
-      complete = length-map es g.E.Effect.components ∙ c.if-effects-parts.false ∙ c.parts.ensures;
-      long = c.if-room-lt-STRIP.false;
-      small = sym c.in_default.ensures;
-      hand = sym (c.is_at_hand.ensures ∙ ap (λ k. event_at_hand k (content sheet)) (c.event_kind.ensures ∙ ap event_kind c.situation_of.ensures.value)) ∙ c.if-not-is_at_hand.false;
-    }

@@ -12,7 +12,7 @@ pub enum Kind {
     Seismic,
 }
 
-// A number that stands for no kind of action.
+// A number that stands for no kind of action. Each such error has a type of its own, since each becomes another refusal.
 #[derive(Clone, Copy, PartialEq, Eq, Debug)]
 pub struct UnknownKind;
 

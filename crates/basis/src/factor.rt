@@ -26,7 +26,7 @@ impl Factor {
         }
     }
 
-    // The factor of so many hundredths. No From, since a number says no unit.
+    // The factor of so many hundredths. No From: a number does not say that it counts hundredths.
     pub fn from_hundredths(hundredths: u8) -> Factor
         ensures { result.units ≡ hundredths * 1000 }
     {

@@ -40,7 +40,8 @@ pub enum Command<'a> {
     Show(Rules),
 }
 
-// Why a line is not played: a word, if one is at fault, and what is wrong with it.
+// Why a line is not played: a word, if one is at fault, and what is wrong with it. A text and no enum, since each problem is told in one
+// place and only printed.
 #[derive(Clone, Copy)]
 pub struct Fault<'a> {
     word: Option<&'a str>,
@@ -229,10 +230,7 @@ fn parse_call<'a>(call: &'a str, words: &[&'a str]) -> Result<Command<'a>, Fault
 
 // The call that a line without its comment states; none where it is blank.
 pub(crate) fn parse(heap: Global, text: &str) -> Result<Option<Command<'_>>, Fault<'_>> {
-    let mut words = Vec::new(heap);
-    for word in text.split_whitespace() {
-        words.push(word)?;
-    }
+    let words: Vec<&str> = text.split_whitespace().collect(heap)?;
     match words.as_slice() {
         [] => Ok(None),
         [call, rest @ ..] => Ok(Some(parse_call(call, rest)?)),

@@ -38,8 +38,7 @@ pub enum Layer {
 #[derive(Clone, Copy)]
 pub struct Rules {
     book: Book,
-    first: Option<Layer>,
-    second: Option<Layer>,
+    layers: Option<(Layer, Option<Layer>)>,
 }
 
 impl<'a> TryFrom<&'a str> for Book {
@@ -92,16 +91,19 @@ fn parse_layer<'a>(layer: &'a str, word: &'a str) -> Result<Layer, Fault<'a>> {
 
 // BOOK [LAYER [LAYER]]
 pub(crate) fn parse_rules<'a>(words: &[&'a str]) -> Result<Rules, Fault<'a>> {
-    let (book, first, second) = match words {
-        [book] => (Book::try_from(*book)?, None, None),
+    let (book, layers) = match words {
+        [book] => (Book::try_from(*book)?, None),
         [book, layer, word] => {
             let book = Book::try_from(*book)?;
-            (book, Some(parse_layer(layer, word)?), None)
+            (book, Some((parse_layer(layer, word)?, None)))
         }
         [book, layer, word, next_layer, next_word] => {
             let book = Book::try_from(*book)?;
             let first = parse_layer(layer, word)?;
-            (book, Some(first), Some(parse_layer(next_layer, next_word)?))
+            (
+                book,
+                Some((first, Some(parse_layer(next_layer, next_word)?))),
+            )
         }
         _ => {
             return Err(fault_of(
@@ -109,11 +111,7 @@ pub(crate) fn parse_rules<'a>(words: &[&'a str]) -> Result<Rules, Fault<'a>> {
             ));
         }
     };
-    Ok(Rules {
-        book,
-        first,
-        second,
-    })
+    Ok(Rules { book, layers })
 }
 
 // A factor as a decimal number, with as many places as it needs and two at least.
@@ -198,7 +196,7 @@ fn print_form<R: Rulebook>(rt: &impl Print, rules: &R, form: u8) -> io::Result<(
     Ok(())
 }
 
-// No Display: it would stand in the crate of the vocabulary, whose contracts cannot say what is printed.
+// No Display, which for a type of another crate would want a wrapper that says no more.
 fn situation_word(situation: Situation) -> &'static str {
     match situation {
         Situation::Persistent => "persistent",
@@ -234,14 +232,14 @@ fn print_layers<R: Rulebook>(rt: &impl Print, book: R, rules: Rules) -> io::Resu
 where
     R: Drop,
 {
-    match rules.first {
+    match rules.layers {
         None => print_rulebook(rt, &book),
-        Some(Layer::Class(class)) => print_under(rt, ClassLayer::over(class, book), rules.second),
-        Some(Layer::Stage(struck)) => print_under(rt, StageLayer::over(struck, book), rules.second),
+        Some((Layer::Class(class), next)) => print_under(rt, ClassLayer::over(class, book), next),
+        Some((Layer::Stage(struck), next)) => print_under(rt, StageLayer::over(struck, book), next),
     }
 }
 
-// The factors of a rulebook with its layers.
+// The factors of a rulebook with its layers. Each rulebook is a type, so each has an arm.
 pub(crate) fn print_rules(rt: &impl Print, rules: Rules) -> io::Result<()> {
     match rules.book {
         Book::Equ => print_layers(rt, Standard(Equ), rules),

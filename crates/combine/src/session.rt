@@ -14,7 +14,7 @@ pub enum State {
     Issued(Issued),
 }
 
-// The name of action i stands at place i: a sheet keeps no names, and a map from names would lose their order.
+// The name of action i stands at place i, since a sheet keeps no names. A list, since a name is sought among 32 at most.
 #[derive(Drop)]
 pub struct Session {
     state: State,

@@ -45,7 +45,8 @@ pub(crate) fn spread_number(word: &str) -> Option<u8> {
     )
 }
 
-// The words of the text, and no Display: it would stand in the crate of the vocabulary, whose contracts cannot say what is printed.
+// The words of the text. No Display, which for a type of another crate would want a wrapper that says no more; and a match beside the
+// table that reads words, so that no kind can lack a word.
 pub(crate) fn kind_word(kind: Kind) -> &'static str {
     match kind {
         Kind::Permanent => "permanent",

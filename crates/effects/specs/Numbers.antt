@@ -13,6 +13,12 @@ stopped_exact z h = omega (arith, ints, clamps)
 pub sum_size : (x y : ℤ) (m n : ℕ) → unsigned_abs x ≤ m → unsigned_abs y ≤ n → unsigned_abs (x +ℤ y) ≤ m + n
 sum_size x y m n h k = omega (arith, ints)
 
+pub product_size : (f : ℕ) (x : ℤ) → unsigned_abs (pos f *ℤ x) ≡ f * unsigned_abs x
+product_size f x = unsigned_abs-mul (pos f) x
+
+pub product_le : (f : ℕ) (x : ℤ) (k m : ℕ) → f ≤ k → unsigned_abs x ≤ m → unsigned_abs (pos f *ℤ x) ≤ k * m
+product_le f x k m h j = omega (arith, product_size f x, mul-le-mul h j)
+
 -- a factor in two parts
 pub product_split : (f g : ℕ) (x : ℤ) → pos (f + g) *ℤ x ≡ pos f *ℤ x +ℤ pos g *ℤ x
 product_split f g x = omega (arith, ints, add-mul f g (up x), add-mul f g (down x))

@@ -7,8 +7,8 @@ use crate::component::{component_multiple, component_sum};
 use crate::effect::Effect;
 use basis::factor::Factor;
 
-// Axial force, moment and shear, in the order in which they rank: by the first that differs. Fields with names, which a caller fills,
-// and no array whose length might be 1 for a single.
+// Axial force, moment and shear, in the order in which they rank: by the first that differs. Not one type with `Single` by a number of
+// components, since callers fill the fields by their names.
 #[derive(Clone, Copy, PartialEq, Eq, PartialOrd, Ord, Debug)]
 pub struct Section {
     pub axial: i64,

@@ -7,7 +7,7 @@ use crate::component::{component_multiple, component_sum};
 use crate::effect::Effect;
 use basis::factor::Factor;
 
-// One component; the greater ranks above.
+// One component; the greater ranks above. A type beside `Section`, whose fields have names.
 #[derive(Clone, Copy, PartialEq, Eq, PartialOrd, Ord, Debug)]
 pub struct Single {
     pub value: i64,

@@ -39,7 +39,8 @@ fn share_of<R: Rulebook, E: Effect>(
 }
 
 impl<'a, R: Rulebook, E: Effect> Prepared<'a, R, E> {
-    // What all actions that are not variable add in a form.
+    // What all actions that are not variable add in a form. By a loop, since the closure of a fold would not know that its entry is one of
+    // the case's.
     pub(crate) fn base(&self, form: u8) -> E
         ensures { E.components result ≡ exact_total E.count (map (base_share E.count E.reaches (content self.now.case.now.sheet.now) (R.meaning self.now.case.now.book.now) (map E.components self.now.case.now.effects.now) form) (entries_of (content self.now.case.now.sheet.now))) }
     {

@@ -10,7 +10,8 @@ use effects::effect::Effect;
 use rulebooks::rulebook::Rulebook;
 use sheet::plain::Sheet;
 
-// A sheet with its actions in entries, a rulebook, and an effect for each part of the sheet.
+// A sheet with its actions in entries, a rulebook, and an effect for each part of the sheet. No Model, whose value could not hold the
+// functions in a sheet's content and a rulebook's meaning.
 #[derive(Drop)]
 pub(crate) struct Case<'a, R: Rulebook, E: Effect> {
     pub(crate) sheet: &'a Sheet,

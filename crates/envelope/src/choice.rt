@@ -63,7 +63,8 @@ impl<'a, E: Effect> Parts<'a, E> {
         ((1u32 << self.effects.len()) - 1) as u16
     }
 
-    // The mask of those that rank above zero.
+    // The mask of those that rank above zero. The loops that make masks are no one function with a test as a closure, whose contract would
+    // be longer than they are.
     fn above_zero(&self) -> u16
         ensures { result ≡ choice E.count E.reaches Free self.now }
     {
@@ -147,7 +148,7 @@ impl<'a, E: Effect> Parts<'a, E> {
     pub(crate) fn weighed(&self, mask: u16, inside: Factor, outside: Factor) -> E
         ensures { E.components result ≡ weighted E.count (by_mask inside.units outside.units mask) self.now }
     {
-        // a mask has a place for each part
+        // opened, since a proof has to know that a mask has a place for each part
         let _ = &self.effects;
         let held = self.sum_of(mask);
         let others = self.sum_of(!mask);

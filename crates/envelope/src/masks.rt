@@ -59,7 +59,8 @@ fn mask_of<E: Effect>(entry: &Entry, parts: &Parts<E>, splits: bool, event: Opti
 }
 
 impl<'a, R: Rulebook, E: Effect> Case<'a, R, E> {
-    // The event action, where the situation has one: the first of greatest effect among the active actions of its kind.
+    // The event action, where the situation has one: the first of greatest effect among the active actions of its kind. By a loop, since a
+    // closure of a chain would not know that its entry is one of the case's.
     pub(crate) fn chosen_event(&self) -> Option<usize>
         ensures { result ≡ chosen_event E.count E.reaches (content self.now.sheet.now) (R.meaning self.now.book.now) (map E.components self.now.effects.now) }
     {
@@ -75,7 +76,7 @@ impl<'a, R: Rulebook, E: Effect> Case<'a, R, E> {
         best.map(|best| best.number)
     }
 
-    // The masks of all actions, by number.
+    // The masks of all actions, by number; the walk as in `masks_in`.
     pub(crate) fn full_masks(&self, event: Option<usize>) -> [u16; 32]
         requires { event ≡ chosen_event E.count E.reaches (content self.now.sheet.now) (R.meaning self.now.book.now) (map E.components self.now.effects.now) }
         ensures { result ≡ (with_chosen E.count E.reaches (content self.now.sheet.now) (R.meaning self.now.book.now) (map E.components self.now.effects.now) 0 None 4095).masks }

@@ -50,7 +50,8 @@ impl<'a, R: Rulebook, E: Effect> Prepared<'a, R, E> {
     }
 
     // Fills the leading half of a strip and then the accompanying half; the rest of the strip stays as it was. The strip is the
-    // caller's, lent from call to call and seen in the contracts as it was and as it is, so each call says that it is long enough.
+    // caller's, lent from call to call, so each says that it is long enough and keeps its rest: with its first places taken as an array,
+    // that the rest stays was left open.
     pub(crate) fn fill_strip(&self, strip: &mut [E], form: u8)
         requires { 24 ≤ length strip.old }
         ensures halves { map E.components strip.new ≡ both_halves E.count (map E.components self.now.case.now.effects.now) self.now.masks.now ((R.meaning self.now.case.now.book.now).form form) (content self.now.case.now.sheet.now) ++ drop 24 (map E.components strip.old) }

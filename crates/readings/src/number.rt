@@ -13,7 +13,7 @@ const HALF: u64 = 1022;
 // its mantissa times 2^(e - `ONES`).
 const ONES: u64 = 1075;
 
-// Whether x is finite and of magnitude at most `LIMIT`. A NaN differs from itself.
+// Whether x is finite and of magnitude at most `LIMIT`, by comparisons alone, as readings are to be tested. A NaN differs from itself.
 #[tactic(auto, using(crate::proofs::Patterns::by_range))]
 pub(crate) fn is_readable(x: f64) -> bool
     ensures { result ≡ readable x }

@@ -19,7 +19,7 @@ pub enum Class {
 }
 
 impl Class {
-    // The factor K on unfavourable actions, in hundredths. No number of the variant, since two classes might have the same K.
+    // The factor K on unfavourable actions, in hundredths. A match, since a class is no number of hundredths.
     pub fn hundredths(self) -> u8
         ensures { result ≡ hundredths_of self }
     {
@@ -61,6 +61,7 @@ impl<R: Rulebook> ClassLayer<R> {
     }
 }
 
+// What passes through stands in both layers: a trait of layers would take more members than these few methods.
 impl<R: Rulebook> Rulebook for ClassLayer<R> {
     const SITUATION: Situation = R::SITUATION;
 

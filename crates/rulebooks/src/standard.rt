@@ -11,7 +11,7 @@ use basis::category::Category;
 use basis::factor::Factor;
 use basis::situation::Situation;
 
-// An expression of the code, by its rows.
+// An expression of the code, by its rows. Each is a type, so that what a pile of layers means is fixed when it is compiled.
 pub trait Expression {
     const SITUATION: Situation;
 

@@ -110,7 +110,7 @@ fn parts_allowed(parts: u8) -> bool
 }
 
 impl Action {
-    // An active action as a caller describes it, or the first question that is answered no.
+    // An active action as a caller describes it, by numbers and a letter as `enter` takes them, or the first question that is answered no.
     pub(crate) fn described(
         kind: u8,
         letter: char,

@@ -15,16 +15,15 @@ impl Sheet {
         ensures answer { said result ≡ new_category (content self.now) number letter }
         ensures found { OnOk result ((number < vec_len self.now.actions) × (variable_at (content self.now) number ≡ true)) }
     {
-        if number >= self.actions.len() {
-            return Err(Refusal::NotEntered);
-        }
-        if !self.actions[number].kind.is_variable() {
+        let action = self.actions.get(number).ok_or(Refusal::NotEntered)?;
+        if !action.kind.is_variable() {
             return Err(Refusal::NotVariable);
         }
         Ok(Category::try_from(letter)?)
     }
 
-    // Whether a pair may be marked or unmarked, if its mark would change.
+    // Whether a pair may be marked or unmarked: its questions in their order, the last one, whether its mark would change, as the caller
+    // knows it.
     pub(crate) fn check_pair(&self, a: usize, b: usize, changes: bool) -> Result<(), Refusal>
         ensures answer { said result ≡ pair_to_mark (content self.now) a b changes }
         ensures found { OnOk result ((a < vec_len self.now.actions) × (b < vec_len self.now.actions) × (can_pair (content self.now).actions a b ≡ true)) }
@@ -48,9 +47,7 @@ impl Sheet {
     pub(crate) fn is_active(&self, number: usize) -> Result<bool, Refusal>
         ensures { said result ≡ ask 6 (is_entered (content self.now) number) (granted (action_at (content self.now) number).active) }
     {
-        if number >= self.actions.len() {
-            return Err(Refusal::NotEntered);
-        }
-        Ok(self.actions[number].active)
+        let action = self.actions.get(number).ok_or(Refusal::NotEntered)?;
+        Ok(action.active)
     }
 }

@@ -99,6 +99,7 @@ impl Sheet {
     {
         let variable = count_variable(&self.actions) + usize::from(action.kind.is_variable());
         let parts = count_parts(&self.actions) + usize::from(action.parts);
+        // Not &&, whose branches would each leave the whole goal.
         (self.actions.len() + 1 <= ACTIONS) & (variable <= VARIABLE_ACTIONS) & (parts <= PARTS)
     }
 

@@ -22,7 +22,7 @@ impl Draft {
         Ok(number)
     }
 
-    // Gives a variable action the category of another letter.
+    // Gives a variable action the category of another letter, to which a question is put.
     pub fn recast(&mut self, number: usize, letter: char) -> Result<(), Refusal>
         ensures { (said result, on_draft self.new) ≡ recasting (on_draft self.old) number letter }
     {

@@ -32,7 +32,10 @@ fn first_too_large<E: Effect>(effects: &[E]) -> Option<usize>
 fn is_at_hand(sheet: &Sheet, kind: Option<Kind>) -> bool
     ensures { result ≡ event_at_hand kind (content sheet.now) }
 {
-    kind.is_none_or(|sought| sheet.actions().iter().any(|action| acts(action, sought)))
+    let Some(sought) = kind else {
+        return true;
+    };
+    sheet.actions().iter().any(|action| acts(action, sought))
 }
 
 // The questions in their order; the first one answered no refuses.

@@ -1,11 +1,9 @@
-use Rattle.std.proofs.Common.{sym, ap, ◌∙◌}
+use Rattle.std.proofs.Common.{sym, ◌∙◌}
 use lib.ListN.{length-map}
-use Rattle.basis.specs.Vocabulary.{event_kind}
 use Rattle.rulebooks.specs.Books.{Book}
 use Rattle.sheet.specs.Content.{content}
-use Rattle.envelope.specs.Answers.{event_at_hand}
 use Rattle.envelope.proofs.Ground.{sound_of}
-use Rattle.envelope.proofs.Promised.{answer_10, answer_11, answer_12, answer_13}
+use Rattle.envelope.proofs.Promised.{answer_10, answer_11}
 use Rattle.envelope.proofs.envelope.check.Goals as goal
 
 pub returns-then-effects-parts : goal.returns-then-effects-parts
@@ -27,4 +25,3 @@ returns-then-room-lt-STRIP g c =
     let so = sound_of _ (content sheet).actions sheet.limited sheet.formed in
     let bl = g.met.R.Rulebook.laws c.args.book.now in
     answer_11 met.closed met.laws (content sheet) b es so bl c.args.room (length-map es g.E.Effect.components ∙ c.if-effects-parts.false ∙ c.parts.ensures) c.if-room-lt-STRIP.true
-

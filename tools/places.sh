@@ -8,10 +8,10 @@ cd "${1:-.}" || exit 2
 # The lines of the sources that a pattern finds, without comment lines.
 code() { grep -rnE --include=*.rt "$1" crates/*/src | grep -vE '^[^:]*:[0-9]+: *//'; }
 
-# The requires that stand in three functions or more, one line for each of them.
+# The facts that stand in the contracts of three functions or more, asked or ensured, one line for each of them.
 repeated() {
-    grep -rhE --include=*.rt '^ *requires' crates/*/src | sed -E 's/^ *requires [a-z]* *//; s/ +$//' | sort | uniq -c |
-        awk '$1 >= 3' | sort -rn
+    grep -rhE --include=*.rt '^ *(requires|ensures)' crates/*/src | sed -E 's/^ *(requires|ensures) [a-z]* *//; s/ +$//' | sort |
+        uniq -c | awk '$1 >= 3' | sort -rn
 }
 
 # A point, its heading, and its lines on standard input.
@@ -29,7 +29,7 @@ code '^(pub |pub\(crate\) )?struct [A-Za-z]+;|^impl .*(Expression|Constant<.*>|E
 code '^ *(pub |pub\(crate\) )?fn (suspend|resume|exclude|lift|kind_number|spread_number|kind_word|spread_word|single_letter|parse_category|count_variable|count_parts|best_beside|lowest_beside|parse_one|parse_two|print_under|print_layers|component_sum|component_multiple|full_masks|masks_in|variable_numbers|set_active|set_category)\b' | point 2b 'functions that may be twins'
 code 'for [a-z_]+ in .*\.\.|\bwhile\b|\bloop\b' | point 3a 'loops over a range'
 code 'for \([a-z_]+, [a-z_]+\) in .*enumerate' | point 3b 'loops that take an index along'
-code '^ *for [a-z_]+ in [^.]*\{' | point 3c 'loops that a method of the library might say'
+code '^ *for [a-z_]+ in [A-Za-z_.]+ \{' | point 3c 'loops that a method of the library might say'
 code 'fn (from_number|from_letter|from_hundredths|number|letter|hundredths|[a-z]+_word|[a-z]+_letter|reason)\b|\.number\(\) ==|impl (PartialEq|PartialOrd|Ord|Clone|Default)\b|fn at_or_above' | point 4a 'conversion, order and printing by hand'
 code '[]a-z0-9_)] as (u8|u16|u32|u64|usize|i64|i128)\b' | point 4b 'casts'
 repeated | point 5a 'facts in the contracts of three or more functions'

@@ -70,7 +70,7 @@ fn enter<'a>(
     }
 }
 
-// Plays a call that changes a draft.
+// Plays a call that changes a draft. Each call is a method of its own, so each has an arm.
 fn change<'a>(
     draft: &mut Draft,
     names: &mut Vec<String>,

@@ -110,7 +110,8 @@ fn parts_allowed(parts: u8) -> bool
 }
 
 impl Action {
-    // An active action as a caller describes it, by numbers and a letter as `enter` takes them, or the first question that is answered no.
+    // An active action as a caller describes it, by numbers and a letter as `enter` takes them, or the first question that is answered
+    // no. Four values and no struct of them, which would be made at one call to be read in this one function.
     pub(crate) fn described(
         kind: u8,
         letter: char,

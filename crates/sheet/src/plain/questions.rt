@@ -32,6 +32,7 @@ impl Sheet {
         if a >= entered || b >= entered {
             return Err(Refusal::NotEntered);
         }
+        // Not &&, whose branches would each leave the whole goal.
         let variable = self.actions[a].kind.is_variable() & self.actions[b].kind.is_variable();
         if !((a != b) & variable) {
             return Err(Refusal::NotVariable);

@@ -87,10 +87,14 @@ impl<R: Rulebook> Rulebook for ClassLayer<R> {
         self.below.has_leader(form)
     }
 
-    // Outside persistent situations the guard changes nothing, since lower is at most upper.
+    // Guarded in persistent situations alone: elsewhere lower is at most upper, so the rulebook below is not asked for it.
     fn upper(&self, form: u8) -> Factor {
-        self.scaled(self.below.upper(form))
-            .at_least(self.below.lower(form))
+        let upper = self.scaled(self.below.upper(form));
+        if R::SITUATION == Situation::Persistent {
+            upper.at_least(self.below.lower(form))
+        } else {
+            upper
+        }
     }
 
     fn lower(&self, form: u8) -> Factor {

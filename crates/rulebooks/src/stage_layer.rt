@@ -1,6 +1,6 @@
 // The stage layer: a category struck from any rulebook.
-ghost use Rattle.std.specs.Prelude.{◌≡◌};
-ghost use Rattle.rulebooks.specs.Layers.{without, staged, StageLeavesAlone};
+ghost use Rattle.std.specs.Prelude.{◌≡◌, ◌≢◌, MatchOption};
+ghost use Rattle.rulebooks.specs.Layers.{staged, StageLeavesAlone};
 ghost use Rattle.std.proofs.Common.{rules};
 
 use crate::rulebook::Rulebook;
@@ -24,15 +24,11 @@ impl<R: Rulebook> StageLayer<R> {
         StageLayer { struck, below }
     }
 
-    // The category's factor, or 0 for the struck category.
-    fn without_struck(&self, category: Category, factor: Factor) -> Factor
-        ensures { result.units ≡ without self.now.struck (λ _. factor.units) category }
+    // The rulebook below, which is not asked for a struck category.
+    fn unless_struck(&self, category: Category) -> Option<&R>
+        ensures { MatchOption result (category ≡ self.now.struck) (λ below. (category ≢ self.now.struck) × (below.now ≡ self.now.below)) }
     {
-        if category == self.struck {
-            Factor::ZERO
-        } else {
-            factor
-        }
+        (category != self.struck).then_some(&self.below)
     }
 }
 
@@ -75,10 +71,12 @@ impl<R: Rulebook> Rulebook for StageLayer<R> {
     }
 
     fn leading(&self, form: u8, category: Category) -> Factor {
-        self.without_struck(category, self.below.leading(form, category))
+        self.unless_struck(category)
+            .map_or(Factor::ZERO, |below| below.leading(form, category))
     }
 
     fn accompanying(&self, form: u8, category: Category) -> Factor {
-        self.without_struck(category, self.below.accompanying(form, category))
+        self.unless_struck(category)
+            .map_or(Factor::ZERO, |below| below.accompanying(form, category))
     }
 }

@@ -34,7 +34,7 @@ fn share_of<R: Rulebook, E: Effect>(
             parts.weighed(mask, factor, factor)
         }
         Kind::Variable => E::zero(),
-        Kind::Accidental | Kind::Seismic => parts.weighed(mask, Factor::ONE, Factor::ZERO),
+        Kind::Accidental | Kind::Seismic => parts.contribution(mask, Factor::ONE),
     }
 }
 

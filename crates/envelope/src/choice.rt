@@ -155,10 +155,11 @@ impl<'a, E: Effect> Parts<'a, E> {
         held.times(inside).sum(others.times(outside))
     }
 
-    // The sum of those in the mask, times a factor.
+    // The sum of those in the mask, times a factor: what `weighed` gives with the others at zero, without their sum.
     #[tactic(auto, using(effects::specs::Lists::small_multiple))]
     pub(crate) fn contribution(&self, mask: u16, factor: Factor) -> E
-        ensures { E.components result ≡ exact_multiple factor.units (weighted E.count (by_mask 1 0 mask) self.now) }
+        ensures value { E.components result ≡ exact_multiple factor.units (weighted E.count (by_mask 1 0 mask) self.now) }
+        ensures weighed { E.components result ≡ weighted E.count (by_mask factor.units 0 mask) self.now }
     {
         self.sum_of(mask).times(factor)
     }

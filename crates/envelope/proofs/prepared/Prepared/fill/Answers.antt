@@ -33,7 +33,7 @@ loop-entry-preserved g c =
           ap (map k.components) w.half-is
           ∙ map-set k.components half _ r
           ∙ placed_yes f (zeros k.count) (content s) list c.args.self.now.case.now.laid i (map k.components half) s.limited.2 (omega arith) (sym c.is_variable.ensures ∙ w.if-is_variable.true) (k.components r)
-          (contributed k.count (map k.components es) masks factor e w.of-parts.result w.factor_of-factor.result.units (k.components r) w.of-parts.ensures.own w.factor_of-factor.ensures w.contribution.ensures)
+          (contributed k.count (map k.components es) masks factor e w.of-parts.result w.factor_of-factor.result.units (k.components r) w.of-parts.ensures.own w.factor_of-factor.ensures w.contribution.ensures.value)
           c.loop-entry.invariant
       | else-is_variable w ↦
           ap (map k.components) w.half-is

@@ -58,7 +58,14 @@ impl Effect for Section {
         axial.max(moment).max(self.shear.unsigned_abs())
     }
 
+    // As the derived order, but by tests: through an Ordering a comparison takes a third longer.
     fn at_or_above(self, other: Section) -> bool {
-        self >= other
+        if self.axial != other.axial {
+            self.axial > other.axial
+        } else if self.moment != other.moment {
+            self.moment > other.moment
+        } else {
+            self.shear >= other.shear
+        }
     }
 }
